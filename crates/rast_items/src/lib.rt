@@ -1,0 +1,14 @@
+//! Processes, messages and events, and what a step is.
+#![tactic(auto)]
+
+mod event;
+mod item;
+mod link;
+mod message;
+mod process;
+
+pub use event::Event;
+pub use item::Item;
+pub use link::{Link, Pid, Side};
+pub use message::{Body, Msg};
+pub use process::Proc;
