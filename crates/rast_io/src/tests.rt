@@ -1,7 +1,6 @@
 // Files and sinks at each call that can fail.
 use super::*;
 use std::alloc::{AllocError, Global};
-use std::fs;
 use std::test::Fail;
 
 fn one_file(alloc: Global, name: &str, bytes: &[u8]) -> Result<MemFiles, AllocError> {
@@ -61,9 +60,6 @@ fn a_sink_takes_a_beginning(rt: HostRuntime) -> Result<(), Fail> {
 fn real_files_are_read_to_their_end(rt: HostRuntime) -> Result<(), Fail> {
     let alloc = rt.alloc();
     let mut files = DiskFiles::new(&rt);
-    fs::write(&rt, "/tmp/rast_io_real_files.txt", b"xyz")?;
-    let read = read_all(alloc, &mut files, "/tmp/rast_io_real_files.txt");
-    assert!(rt; read.is_ok_and(|bytes| bytes.as_slice() == b"xyz".as_slice()));
     for (name, want) in [
         ("/dev/null", Ok(0)),
         ("/dev/zero", Err(ReadErr::TooLong)),
