@@ -1,0 +1,4 @@
+pub mod SameKinds
+pub mod Many
+pub mod Sound
+pub mod Complete
