@@ -9,11 +9,11 @@ use Rattle.rast_types.specs.declared.table.TypeDef.{TypeDef}
 use Rattle.rast_terms.specs.declared.node.Node.{Node}
 use Rattle.rast_terms.specs.declared.node.Node.TheVariants as node
 use Rattle.rast_terms.specs.declared.program.Program.{Program}
-use Rattle.rast_parse.specs.declared.tree.File.{File}
-use Rattle.rast_parse.specs.declared.tree.Definition.{Definition}
-use Rattle.rast_parse.specs.declared.tree.Alternative.{Alternative}
-use Rattle.rast_parse.specs.declared.tree.Part.{Part}
-use Rattle.rast_parse.specs.declared.tree.Part.TheVariants.{One, Named}
+use Rattle.rast_narrow.specs.declared.tree.File.{File}
+use Rattle.rast_narrow.specs.declared.tree.Definition.{Definition}
+use Rattle.rast_narrow.specs.declared.tree.Alternative.{Alternative}
+use Rattle.rast_narrow.specs.declared.tree.Part.{Part}
+use Rattle.rast_narrow.specs.declared.tree.Part.TheVariants.{One, Named}
 
 -- one more name, unless it is there
 abbrev pub added : List (List ℕ) → List ℕ → List (List ℕ)

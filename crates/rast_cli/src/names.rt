@@ -4,7 +4,7 @@ ghost use Rattle.std.specs.List.{flat_map};
 ghost use Rattle.rast_cli.specs.Tables.{added, all_added, definition_names, names_of, place, definition_place};
 
 use rast_ast::Name;
-use rast_parse::{Definition, File};
+use rast_narrow::{Definition, File};
 use sqlite_items::Items;
 use std::alloc::{AllocError, Global};
 

@@ -4,15 +4,15 @@ use Rattle.std.specs.Str.{bytes_eq}
 use Rattle.rast_ast.specs.declared.kind.Kind.{Kind}
 use Rattle.rast_ast.specs.declared.kind.Kind.TheVariants as kind
 use Rattle.rast_ast.specs.Kinds.{is_kind}
-use Rattle.rast_parse.specs.declared.tree.File.{File}
-use Rattle.rast_parse.specs.declared.tree.Definition.{Definition}
-use Rattle.rast_parse.specs.declared.tree.Alternative.{Alternative}
-use Rattle.rast_parse.specs.declared.tree.Declared.{Declared}
-use Rattle.rast_parse.specs.declared.tree.Part.{Part}
-use Rattle.rast_parse.specs.declared.tree.Part.TheVariants.{One, Named}
-use Rattle.rast_parse.specs.declared.error.ParseErr.{ParseErr}
-use Rattle.rast_parse.specs.declared.error.ParseErr.TheVariants.{NotYet, Memory}
-use Rattle.rast_parse.specs.Words.{Word, Name, Number, Fixed}
+use Rattle.rast_narrow.specs.declared.tree.File.{File}
+use Rattle.rast_narrow.specs.declared.tree.Definition.{Definition}
+use Rattle.rast_narrow.specs.declared.tree.Alternative.{Alternative}
+use Rattle.rast_narrow.specs.declared.tree.Declared.{Declared}
+use Rattle.rast_narrow.specs.declared.tree.Part.{Part}
+use Rattle.rast_narrow.specs.declared.tree.Part.TheVariants.{One, Named}
+use Rattle.rast_narrow.specs.declared.error.ParseErr.{ParseErr}
+use Rattle.rast_narrow.specs.declared.error.ParseErr.TheVariants.{NotYet, Memory}
+use Rattle.rast_narrow.specs.Words.{Word, Name, Number, Fixed}
 
 -- what was read, and the tokens after it, or none where the tokens don't begin with it
 abbrev pub Read : Type 0 → Type 0

@@ -1,10 +1,10 @@
 use Rattle.std.proofs.Common.{rules, arith, ◌≡◌, ◌<◌, ◌≤◌, length, true, false}
 use Rattle.std.proofs.lemmas.Result.{err_from_is_err_and}
 use Rattle.rast_ast.specs.declared.kind.Kind.TheVariants as kind
-use Rattle.rast_parse.specs.Reading.{step_read, starts}
-use Rattle.rast_parse.proofs.Many.{many_next, many_stops, many_ends, many_refused}
-use Rattle.rast_parse.proofs.parts.steps.Goals as goal
-use Rattle.rast_parse.proofs.parts.steps.Goals.{else-loop-turn-test, then-loop-turn-test+then-not-is_at}
+use Rattle.rast_narrow.specs.Reading.{step_read, starts}
+use Rattle.rast_narrow.proofs.Many.{many_next, many_stops, many_ends, many_refused}
+use Rattle.rast_narrow.proofs.parts.steps.Goals as goal
+use Rattle.rast_narrow.proofs.parts.steps.Goals.{else-loop-turn-test, then-loop-turn-test+then-not-is_at}
 
 pub loop-turn-preserved : goal.loop-turn-preserved
 loop-turn-preserved c =

@@ -8,15 +8,15 @@ use Rattle.rast_ast.specs.declared.kind.Kind.{Kind}
 use Rattle.rast_ast.specs.declared.kind.Kind.TheVariants as kind
 use Rattle.rast_ast.specs.Kinds.{is_kind}
 use Rattle.rast_ast.proofs.KindLaws.{is_kind_same}
-use Rattle.rast_parse.specs.declared.tree.File.{File}
-use Rattle.rast_parse.specs.declared.tree.Definition.{Definition}
-use Rattle.rast_parse.specs.declared.tree.Alternative.{Alternative}
-use Rattle.rast_parse.specs.declared.tree.Declared.{Declared}
-use Rattle.rast_parse.specs.declared.tree.Part.{Part}
-use Rattle.rast_parse.specs.declared.tree.Part.TheVariants.{One, Named}
-use Rattle.rast_parse.specs.Words.{Word, Name, Number, Fixed}
-use Rattle.rast_parse.specs.Grammar.{spelled_part, spelled_alternative, spelled_further, spelled_definition, spelled_step, spelled_declared, spelled_header, spelled_end, spelled}
-use Rattle.rast_parse.specs.Reading.{Read, ◌>>=◌, is_of, starts, skip_read, name_in, name_read, same_in, same_read, one_in, one_read, part_read, many_read, alternative_read, further_read, definition_read, declared_read, header_read, step_read, end_read, file_read}
+use Rattle.rast_narrow.specs.declared.tree.File.{File}
+use Rattle.rast_narrow.specs.declared.tree.Definition.{Definition}
+use Rattle.rast_narrow.specs.declared.tree.Alternative.{Alternative}
+use Rattle.rast_narrow.specs.declared.tree.Declared.{Declared}
+use Rattle.rast_narrow.specs.declared.tree.Part.{Part}
+use Rattle.rast_narrow.specs.declared.tree.Part.TheVariants.{One, Named}
+use Rattle.rast_narrow.specs.Words.{Word, Name, Number, Fixed}
+use Rattle.rast_narrow.specs.Grammar.{spelled_part, spelled_alternative, spelled_further, spelled_definition, spelled_step, spelled_declared, spelled_header, spelled_end, spelled}
+use Rattle.rast_narrow.specs.Reading.{Read, ◌>>=◌, is_of, starts, skip_read, name_in, name_read, same_in, same_read, one_in, one_read, part_read, many_read, alternative_read, further_read, definition_read, declared_read, header_read, step_read, end_read, file_read}
 
 pub bytes_same : (xs ys : List ℕ) → bytes_eq xs ys ≡ true → xs ≡ ys
 bytes_same xs ys e = (bytes_eq-Decides xs ys).0 e

@@ -1,9 +1,9 @@
 use Rattle.std.proofs.Common.{rules, arith, ◌≡◌, ◌<◌, ◌≤◌, length, true, false}
 use Rattle.rast_ast.specs.declared.kind.Kind.TheVariants as kind
-use Rattle.rast_parse.specs.Reading.{definition_read, starts}
-use Rattle.rast_parse.proofs.Many.{many_next, many_stops, many_ends}
-use Rattle.rast_parse.proofs.parts.definitions.Goals as goal
-use Rattle.rast_parse.proofs.parts.definitions.Goals.{else-loop-turn-test, then-loop-turn-test+then-not-is_at}
+use Rattle.rast_narrow.specs.Reading.{definition_read, starts}
+use Rattle.rast_narrow.proofs.Many.{many_next, many_stops, many_ends}
+use Rattle.rast_narrow.proofs.parts.definitions.Goals as goal
+use Rattle.rast_narrow.proofs.parts.definitions.Goals.{else-loop-turn-test, then-loop-turn-test+then-not-is_at}
 
 pub loop-turn-preserved : goal.loop-turn-preserved
 loop-turn-preserved c =

@@ -1,9 +1,9 @@
 -- What a reader's answer says of the tokens before and after it.
 use Rattle.std.specs.Prelude.{◌≡◌, ℕ, List, Some, None, Result, Ok, Err}
-use Rattle.rast_parse.specs.declared.error.ParseErr.{ParseErr}
-use Rattle.rast_parse.specs.declared.error.ParseErr.TheVariants.{NotYet, Memory}
-use Rattle.rast_parse.specs.Words.{Word}
-use Rattle.rast_parse.specs.Reading.{Read}
+use Rattle.rast_narrow.specs.declared.error.ParseErr.{ParseErr}
+use Rattle.rast_narrow.specs.declared.error.ParseErr.TheVariants.{NotYet, Memory}
+use Rattle.rast_narrow.specs.Words.{Word}
+use Rattle.rast_narrow.specs.Reading.{Read}
 
 -- after Ok the reader stands behind what was read, and a form that isn't built is one that can't be read
 abbrev pub Reads : {X : Type 0} → Result X ParseErr → List Word → Read X → Type 0

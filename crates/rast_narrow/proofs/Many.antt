@@ -2,11 +2,11 @@
 use Rattle.std.proofs.Common.{◌≡◌, ℕ, zero, suc, ◌+◌, ◌-◌, ◌<◌, ◌≤◌, Bool, true, false, List, [], ◌∷◌, ◌++◌, Some, None, Result, Ok, Err, refl, sym, ap, ◌∙◌, subst, append_assoc, append-nil, arith}
 use Rattle.std.specs.declared.option.Option.{Option}
 use Rattle.rast_ast.specs.declared.kind.Kind.{Kind}
-use Rattle.rast_parse.specs.declared.error.ParseErr.{ParseErr}
-use Rattle.rast_parse.specs.declared.error.ParseErr.TheVariants.{NotYet, Memory}
-use Rattle.rast_parse.specs.Words.{Word}
-use Rattle.rast_parse.specs.Reads.{Reads}
-use Rattle.rast_parse.specs.Reading.{Read, ◌>>=◌, starts, many_read}
+use Rattle.rast_narrow.specs.declared.error.ParseErr.{ParseErr}
+use Rattle.rast_narrow.specs.declared.error.ParseErr.TheVariants.{NotYet, Memory}
+use Rattle.rast_narrow.specs.Words.{Word}
+use Rattle.rast_narrow.specs.Reads.{Reads}
+use Rattle.rast_narrow.specs.Reading.{Read, ◌>>=◌, starts, many_read}
 
 -- what is read further, after these
 abbrev pub front : {X : Type 0} → List X → Read (List X) → Read (List X)

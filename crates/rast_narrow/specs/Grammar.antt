@@ -2,13 +2,13 @@
 -- its process, which sends labels and closes, and its execution.
 use Rattle.std.specs.Prelude.{ℕ, List, [], ◌∷◌, ◌++◌, flat_map, codes}
 use Rattle.rast_ast.specs.declared.kind.Kind.TheVariants as kind
-use Rattle.rast_parse.specs.declared.tree.File.{File}
-use Rattle.rast_parse.specs.declared.tree.Declared.{Declared}
-use Rattle.rast_parse.specs.declared.tree.Definition.{Definition}
-use Rattle.rast_parse.specs.declared.tree.Alternative.{Alternative}
-use Rattle.rast_parse.specs.declared.tree.Part.{Part}
-use Rattle.rast_parse.specs.declared.tree.Part.TheVariants.{One, Named}
-use Rattle.rast_parse.specs.Words.{Word, Name, Number, Fixed}
+use Rattle.rast_narrow.specs.declared.tree.File.{File}
+use Rattle.rast_narrow.specs.declared.tree.Declared.{Declared}
+use Rattle.rast_narrow.specs.declared.tree.Definition.{Definition}
+use Rattle.rast_narrow.specs.declared.tree.Alternative.{Alternative}
+use Rattle.rast_narrow.specs.declared.tree.Part.{Part}
+use Rattle.rast_narrow.specs.declared.tree.Part.TheVariants.{One, Named}
+use Rattle.rast_narrow.specs.Words.{Word, Name, Number, Fixed}
 
 -- `1`, or the name of a type
 abbrev pub spelled_part : Part → Word

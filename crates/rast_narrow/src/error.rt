@@ -15,7 +15,7 @@ pub enum ParseErr {
 }
 
 impl From<AllocError> for ParseErr {
-    ghost use Rattle.rast_parse.specs.declared.error.ParseErr.TheVariants.{Memory};
+    ghost use Rattle.rast_narrow.specs.declared.error.ParseErr.TheVariants.{Memory};
 
     ghost from_gives = { λ _ e. e ≡ Memory };
 

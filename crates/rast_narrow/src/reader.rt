@@ -1,9 +1,9 @@
 // Reading a list of tokens from its beginning.
 ghost use Rattle.std.specs.Prelude.{◌≡◌, ◌≤◌, ◌+◌, length, All};
 ghost use Rattle.rast_ast.specs.Kinds.{is_kind};
-ghost use Rattle.rast_parse.specs.Words.{Word, words, IsToken, bytes_of};
-ghost use Rattle.rast_parse.specs.Reading.{starts, skip_read, name_read, same_read, one_read, part_read};
-ghost use Rattle.rast_parse.specs.Reads.{Reads};
+ghost use Rattle.rast_narrow.specs.Words.{Word, words, IsToken, bytes_of};
+ghost use Rattle.rast_narrow.specs.Reading.{starts, skip_read, name_read, same_read, one_read, part_read};
+ghost use Rattle.rast_narrow.specs.Reads.{Reads};
 
 use crate::error::ParseErr;
 use crate::tree::Part;
@@ -23,7 +23,7 @@ pub struct Reader<'a> {
 
 impl<'a> Model for Reader<'a> {
     ghost use Rattle.std.specs.Prelude.{List, All};
-    ghost use Rattle.rast_parse.specs.Words.{Word, words, IsToken};
+    ghost use Rattle.rast_narrow.specs.Words.{Word, words, IsToken};
 
     ghost Value = { List Word };
 

@@ -1,8 +1,8 @@
 // The parts of a file of the first form, each read by the readers of its own parts.
 ghost use Rattle.std.specs.Prelude.{◌≡◌, length};
 ghost use Rattle.rast_ast.specs.declared.kind.Kind.TheVariants as kind;
-ghost use Rattle.rast_parse.specs.Reading.{alternative_read, further_read, definition_read, many_read, declared_read, header_read, step_read, end_read, file_read};
-ghost use Rattle.rast_parse.specs.Reads.{Reads};
+ghost use Rattle.rast_narrow.specs.Reading.{alternative_read, further_read, definition_read, many_read, declared_read, header_read, step_read, end_read, file_read};
+ghost use Rattle.rast_narrow.specs.Reads.{Reads};
 
 use crate::error::ParseErr;
 use crate::reader::Reader;
