@@ -36,21 +36,24 @@ fn is_comment_byte(c: u8) -> bool
 
 /// How many letters, digits and `_` stand at the front.
 pub fn word_run(text: &[u8]) -> usize
-    ensures { result ≡ prefix_len is_word_byte text.now }
+    ensures run { result ≡ prefix_len is_word_byte text.now }
+    ensures within { result ≤ length text.now }
 {
     text.iter().take_while(|c| is_word_byte(**c)).count()
 }
 
 /// How many digits stand at the front.
 pub fn digit_run(text: &[u8]) -> usize
-    ensures { result ≡ prefix_len is_digit text.now }
+    ensures run { result ≡ prefix_len is_digit text.now }
+    ensures within { result ≤ length text.now }
 {
     text.iter().take_while(|c| is_digit_byte(**c)).count()
 }
 
 /// How many bytes of a comment stand at the front.
 pub fn comment_run(text: &[u8]) -> usize
-    ensures { result ≡ prefix_len is_comment_byte text.now }
+    ensures run { result ≡ prefix_len is_comment_byte text.now }
+    ensures within { result ≤ length text.now }
 {
     text.iter().take_while(|c| is_comment_byte(**c)).count()
 }

@@ -1,5 +1,5 @@
 // What stands at the front of a text.
-ghost use Rattle.std.specs.Prelude.{◌≡◌, true, ◌∷◌};
+ghost use Rattle.std.specs.Prelude.{◌≡◌, true, ◌∷◌, not, ◌==◌};
 ghost use Rattle.rast_ast.specs.Names.{is_letter, is_digit};
 ghost use Rattle.rast_lex.specs.Bytes.{starts};
 ghost use Rattle.rast_lex.specs.Fronts.{HasFront};
@@ -68,8 +68,19 @@ fn comment(text: &[u8]) -> Front
     ensures { HasFront (37 ∷ text.now) result }
 {
     let len = comment_run(text);
-    match skip(text, len) {
-        [c, ..] if *c != 10 => Front::BadComment(len + 1),
-        _ => Front::Piece(None, len + 1),
+    if is_comment_end(skip(text, len)) {
+        Front::Piece(None, len + 1)
+    } else {
+        Front::BadComment(len + 1)
+    }
+}
+
+// Whether a comment ends here: at a line feed, or at the end of the text.
+fn is_comment_end(rest: &[u8]) -> bool
+    ensures { starts (λ c. not (c == 10)) rest.now ≡ not result }
+{
+    match rest {
+        [c, ..] => *c == 10,
+        [] => true,
     }
 }

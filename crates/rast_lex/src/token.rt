@@ -1,8 +1,8 @@
 // The tokens of a text.
-ghost use Rattle.std.specs.Prelude.{◌≡◌, ◌≤◌, ◌^◌, List, ℕ, length, drop};
+ghost use Rattle.std.specs.Prelude.{◌≡◌, ◌≤◌, ◌^◌, ◌++◌, length, OnOk, IfErr};
 ghost use Rattle.rast_lex.specs.declared.token.Token.{Token};
 ghost use Rattle.rast_lex.specs.declared.token.LexErr.{LexErr};
-ghost use Rattle.rast_lex.specs.Tokens.{AreTokens, IsFirstFault, Lexes, GivesTokens, GivesFault};
+ghost use Rattle.rast_lex.specs.Tokens.{Lexes, token_at};
 
 use std::alloc::{AllocFailed, Global};
 
@@ -59,9 +59,7 @@ pub fn tokens(alloc: Global, text: &[u8]) -> Result<Vec<Token>, LexErr>
         match front_of(rest) {
             Front::End => return Ok(out),
             Front::Piece(kind, len) => {
-                if let Some(kind) = kind {
-                    out.push(Token { kind, at: at as u32, len: len as u32 })?;
-                }
+                push_token(&mut out, kind, at as u32, len as u32)?;
                 at += len;
                 rest = skip(rest, len);
             }
@@ -71,4 +69,15 @@ pub fn tokens(alloc: Global, text: &[u8]) -> Result<Vec<Token>, LexErr>
             Front::LongName => return Err(LexErr::LongName { at: at as u32 }),
         }
     }
+}
+
+// Appends the token of a piece, if its kind is one.
+fn push_token(out: &mut Vec<Token>, kind: Option<Kind>, at: u32, len: u32) -> Result<(), LexErr>
+    ensures ok { OnOk result (out.new.items ≡ out.old.items ++ token_at at len kind) }
+    ensures err { IfErr result (λ e. e ≡ LexErr.Memory) }
+{
+    if let Some(kind) = kind {
+        out.push(Token { kind, at, len })?;
+    }
+    Ok(())
 }
