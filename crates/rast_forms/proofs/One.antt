@@ -2,8 +2,8 @@
 use Rattle.std.proofs.Common.{◌≡◌, ℕ, suc, max, ◌<◌, ◌≤◌, Bool, true, false, cond, ◌==◌, List, [], ◌∷◌, ◌++◌, Option, Some, None, ap, ap₂, sym, ◌∙◌, refl, subst, inl, arith}
 use Rattle.std.proofs.lemmas.Bool.{eqb-true, eq-eqb}
 use Rattle.rast_forms.specs.Words.{Word, Name, Number, Fixed, key_of, is_in, starts}
-use Rattle.rast_forms.specs.Marks.{Mark, bare, highest, IsShallow}
-use Rattle.rast_forms.specs.Reading.{Why, Syntax, TooDeep, Read, Done, Bad, Reader, ◌>>=◌, one_read, given}
+use Rattle.rast_forms.specs.Marks.{Mark, bare, highest, IsShallow, plain}
+use Rattle.rast_forms.specs.Reading.{Why, Syntax, TooDeep, Read, Done, Bad, Reader, ◌>>=◌, one_read, given, get_name, get_number, get_fixed}
 use Rattle.rast_forms.proofs.Forms.{Form, spell, Comes, Begins, Found, Fails, Right, Exact}
 
 abbrev pub one : {X : Type 0} → (X → Mark) → (X → Bool) → List ℕ → X → Form X
@@ -58,33 +58,15 @@ module _ {X : Type 0} (bar : List ℕ) (d : ℕ) (get : Word → Option X) (put 
 
 -- ---- a name, a number, a keyword or symbol
 
-abbrev pub plain : Word → Mark
-plain w = record { word = w; open_at = 0; in_formula = false }
-
-abbrev pub get_name : Word → Option (List ℕ)
-get_name (Name bytes) = Some bytes
-get_name (Number value) = None
-get_name (Fixed which) = None
-
 get_name_back : (t : Word) (x : List ℕ) → get_name t ≡ Some x → (t ≡ Name x) × (true ≡ true)
 get_name_back (Name bytes) x e = let same : bytes ≡ x = cc in (ap Name same, refl)
 get_name_back (Number value) x e = absurd (cc)
 get_name_back (Fixed which) x e = absurd (cc)
 
-abbrev pub get_number : Word → Option ℕ
-get_number (Name bytes) = None
-get_number (Number value) = Some value
-get_number (Fixed which) = None
-
 get_number_back : (t : Word) (x : ℕ) → get_number t ≡ Some x → (t ≡ Number x) × (true ≡ true)
 get_number_back (Name bytes) x e = absurd (cc)
 get_number_back (Number value) x e = let same : value ≡ x = cc in (ap Number same, refl)
 get_number_back (Fixed which) x e = absurd (cc)
-
-abbrev pub get_fixed : ℕ → Word → Option (Unit {0})
-get_fixed k (Name bytes) = None
-get_fixed k (Number value) = None
-get_fixed k (Fixed which) = cond (which == k) (Some tt) None
 
 fixed_there : (k : ℕ) → get_fixed k (Fixed k) ≡ Some tt
 fixed_there k = rw (eq-eqb k k refl) refl

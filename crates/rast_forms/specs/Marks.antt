@@ -37,3 +37,12 @@ count bar m next = cond (m.in_formula && starts bar next) (m.open_at - 1) m.open
 abbrev pub IsShallow : List ℕ → ℕ → List Mark → List Word → Type 0
 IsShallow bar d [] rest = Unit {0}
 IsShallow bar d (m ∷ ms) rest = (count bar m (bare ms ++ rest) ≤ d) × IsShallow bar d ms rest
+
+-- one part after another
+infixr 20 ◌▸◌
+abbrev pub ◌▸◌ : List Mark → List Mark → List Mark
+a ▸ b = a ++ b
+
+-- a token that no starred nonterminal is open at
+abbrev pub plain : Word → Mark
+plain w = record { word = w; open_at = 0; in_formula = false }

@@ -1,5 +1,5 @@
 -- Reading tokens from the left, by small readers put together.
-use Rattle.std.specs.Prelude.{ℕ, zero, suc, Bool, true, false, List, [], ◌∷◌, ◌++◌, length, Option, Some, None, cond, ◌⊎◌}
+use Rattle.std.specs.Prelude.{ℕ, zero, suc, Bool, true, false, List, [], ◌∷◌, ◌++◌, length, Option, Some, None, cond, ◌==◌, ◌⊎◌}
 use Rattle.std.proofs.Common.{inl, inr}
 use Rattle.rast_forms.specs.Words.{Word, Name, Number, Fixed, starts}
 
@@ -29,6 +29,22 @@ given (Some x) t ts = Done x ts
 abbrev pub one_read : {X : Type 0} → (Word → Option X) → Reader X
 one_read get [] = Bad Syntax []
 one_read get (t ∷ ts) = given (get t) t ts
+
+-- the bytes of a name, the value of a number, and whether it is this keyword or symbol
+abbrev pub get_name : Word → Option (List ℕ)
+get_name (Name bytes) = Some bytes
+get_name (Number value) = None
+get_name (Fixed which) = None
+
+abbrev pub get_number : Word → Option ℕ
+get_number (Name bytes) = None
+get_number (Number value) = Some value
+get_number (Fixed which) = None
+
+abbrev pub get_fixed : ℕ → Word → Option (Unit {0})
+get_fixed k (Name bytes) = None
+get_fixed k (Number value) = None
+get_fixed k (Fixed which) = cond (which == k) (Some tt) None
 
 -- one after the other
 abbrev pub seq_read : {X Y : Type 0} → Reader X → Reader Y → Reader (X × Y)
@@ -78,3 +94,7 @@ whole_read p ts = p ts >>= ended
 -- these before what is read further
 abbrev pub front : {X : Type 0} → List X → Read (List X) → Read (List X)
 front xs m = m >>= λ ys rest. Done (xs ++ ys) rest
+
+-- one reader or another of the same parts, by the first token
+abbrev pub choice_read : {X : Type 0} → List ℕ → Reader X → Reader X → Reader X
+choice_read first p q ts = cond (starts first ts) (p ts) (q ts)
