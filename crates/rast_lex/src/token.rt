@@ -1,14 +1,17 @@
 // The tokens of a text.
-ghost use Rattle.std.specs.Prelude.{◌≡◌, ◌≤◌, ◌^◌, ◌++◌, length, OnOk, IfErr};
+ghost use Rattle.std.specs.Prelude.{◌≡◌, ◌≤◌, ◌^◌, ◌++◌, List, length, OnOk, IfErr};
 ghost use Rattle.rast_lex.specs.declared.token.Token.{Token};
 ghost use Rattle.rast_lex.specs.declared.token.LexErr.{LexErr};
-ghost use Rattle.rast_lex.specs.Tokens.{Lexes, token_at};
+ghost use Rattle.rast_lex.specs.declared.token.Token.{Token};
+ghost use Rattle.rast_lex.specs.declared.token.LexErr.{LexErr};
+ghost use Rattle.rast_lex.specs.Tokens.{AreTokens, GivesFault, GivesTokens, IsFirstFault, Lexes, token_at};
 
 use std::alloc::{AllocFailed, Global};
 
+use rast_ast::Kind;
+
 use crate::byte::skip;
 use crate::front::{Front, front_of};
-use rast_ast::Kind;
 
 /// A token: its kind, the place of its first byte, and how many bytes it has.
 #[derive(Clone, Copy, Debug, PartialEq, Eq)]
@@ -47,8 +50,17 @@ impl<T: Drop> From<AllocFailed<T>> for LexErr {
     }
 }
 
-/// The tokens of a text in order, or its first fault.
+/// The tokens of a text of at most 1,048,576 bytes in order, or its first fault.
 pub fn tokens(alloc: Global, text: &[u8]) -> Result<Vec<Token>, LexErr>
+    requires { length text.now ≤ 2 ^ 20 }
+    ensures exact { Lexes (λ v. v.items) text.now result }
+    ensures only { (tokens : List Token) → AreTokens text.now tokens → GivesTokens (λ v. v.items) tokens result }
+    ensures only_fault { (fault : LexErr) → IsFirstFault text.now fault → GivesFault fault result }
+{
+    cut(alloc, text)
+}
+
+fn cut(alloc: Global, text: &[u8]) -> Result<Vec<Token>, LexErr>
     requires { length text.now ≤ 2 ^ 20 }
     ensures { Lexes (λ v. v.items) text.now result }
 {

@@ -1,9 +1,8 @@
-use Rattle.std.proofs.Common.{arith, ap, length, length-drop}
-use Rattle.rast_lex.proofs.Cuts.{more, some_len, len_within}
+use Rattle.rast_lex.proofs.Answered.{tokens_only, fault_only}
 use Rattle.rast_lex.proofs.token.tokens.Goals as goal
 
-pub loop-out-smaller : goal.loop-out-smaller
-loop-out-smaller c = omega (arith, ap length c.skip-rest.ensures, length-drop c.in-Piece.len c.loop-out.rest.now, some_len c.loop-out.rest.now c.in-Piece.kind c.in-Piece.len c.in-Piece.ensures, len_within c.loop-out.rest.now c.in-Piece.kind c.in-Piece.len c.in-Piece.ensures)
+pub returns-clause-only : goal.returns-clause-only
+returns-clause-only c = tokens_only _ _ c.args.text.now c.cut.result c.cut.ensures
 
-pub loop-out-preserved : goal.loop-out-preserved
-loop-out-preserved c = rw (c.skip-rest.ensures, c.in_ok-push_token-in-Piece.ensures.ok) (more c.args.text.now c.loop-out.rest.now c.loop-out.out.items c.loop-out.at c.loop-out.invariant c.in-Piece.kind c.in-Piece.len c.in-Piece.ensures)
+pub returns-clause-only_fault : goal.returns-clause-only_fault
+returns-clause-only_fault c = fault_only _ _ c.args.text.now c.cut.result c.cut.ensures

@@ -1,6 +1,6 @@
 use Rattle.std.proofs.Common.{length}
 use Rattle.rast_lex.proofs.Cuts.{Cut}
-use Rattle.rast_lex.proofs.token.tokens.Given as goal
+use Rattle.rast_lex.proofs.token.cut.Given as goal
 
 abbrev pub invariant-loop-out : goal.invariant-loop-out
 invariant-loop-out l = Cut l.text l.rest l.out.items l.at
