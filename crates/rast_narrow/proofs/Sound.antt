@@ -141,8 +141,8 @@ definition_sound ws y e =
     let last = many_sound kind.Comma further_read spelled_further further_sound (length p6.rest) p6.rest _ p7.was ∙ ap (λ (t : List Word). further ++ t) (skip_sound kind.CloseBrace refl refl p7.rest _ p8.was) in
     subst (λ (z : Definition × List Word). ws ≡ spelled_definition z.0 ++ z.1) (some_same _ y p8.more)
     (skip_sound kind.Type refl refl ws _ p1.was then name_sound p1.rest _ p2.was then skip_sound kind.Equal refl refl p2.rest _ p3.was then skip_sound kind.Plus refl refl p3.rest _ p4.was
-      then skip_sound kind.OpenBrace refl refl p4.rest _ p5.was then (alternative_sound p5.rest _ p6.was ∙ ap (λ (t : List Word). first ++ t) last
-        ∙ regroup first further (Fixed kind.CloseBrace ∷ []) p8.rest))
+    then skip_sound kind.OpenBrace refl refl p4.rest _ p5.was then (alternative_sound p5.rest _ p6.was ∙ ap (λ (t : List Word). first ++ t) last
+    ∙ regroup first further (Fixed kind.CloseBrace ∷ []) p8.rest))
 
 declared_sound : (ws : List Word) (y : Declared × List Word) → declared_read ws ≡ Some y → ws ≡ spelled_declared y.0 ++ y.1
 declared_sound ws y e =
@@ -159,8 +159,8 @@ declared_sound ws y e =
     let p11 = after _ _ y p10.more in
     subst (λ (z : Declared × List Word). ws ≡ spelled_declared z.0 ++ z.1) (some_same _ y p11.more)
     (skip_sound kind.Decl refl refl ws _ p1.was then name_sound p1.rest _ p2.was then skip_sound kind.Colon refl refl p2.rest _ p3.was then skip_sound kind.Dot refl refl p3.rest _ p4.was
-      then skip_sound kind.Bar refl refl p4.rest _ p5.was then skip_sound kind.Minus refl refl p5.rest _ p6.was then skip_sound kind.OpenParen refl refl p6.rest _ p7.was
-      then name_sound p7.rest _ p8.was then skip_sound kind.Colon refl refl p8.rest _ p9.was then name_sound p9.rest _ p10.was then skip_sound kind.CloseParen refl refl p10.rest _ p11.was)
+    then skip_sound kind.Bar refl refl p4.rest _ p5.was then skip_sound kind.Minus refl refl p5.rest _ p6.was then skip_sound kind.OpenParen refl refl p6.rest _ p7.was
+    then name_sound p7.rest _ p8.was then skip_sound kind.Colon refl refl p8.rest _ p9.was then name_sound p9.rest _ p10.was then skip_sound kind.CloseParen refl refl p10.rest _ p11.was)
 
 header_sound : (process : List ℕ) (ws : List Word) (y : List ℕ × List Word) → header_read process ws ≡ Some y → ws ≡ spelled_header y.0 process ++ y.1
 header_sound process ws y e =
@@ -171,7 +171,7 @@ header_sound process ws y e =
     let p5 = after _ _ y p4.more in
     subst (λ (z : List ℕ × List Word). ws ≡ spelled_header z.0 process ++ z.1) (some_same _ y p5.more)
     (skip_sound kind.Proc refl refl ws _ p1.was then name_sound p1.rest _ p2.was then skip_sound kind.LeftArrow refl refl p2.rest _ p3.was then same_sound process p3.rest _ p4.was
-      then skip_sound kind.Equal refl refl p4.rest _ p5.was)
+    then skip_sound kind.Equal refl refl p4.rest _ p5.was)
 
 step_sound : (channel : List ℕ) (ws : List Word) (y : List ℕ × List Word) → step_read channel ws ≡ Some y → ws ≡ spelled_step channel y.0 ++ y.1
 step_sound channel ws y e =
@@ -207,9 +207,9 @@ file_sound ws y e =
     let last = spelled_end p4.value p3.value.process in
     subst (λ (z : File × List Word). ws ≡ spelled z.0 ++ z.1) (some_same _ y p6.more)
     (skip_sound kind.Explicit refl refl ws _ p1.was
-      then (many_sound kind.Type definition_read spelled_definition definition_sound (length p1.rest) p1.rest _ p2.was
-        ∙ ap (λ (t : List Word). definitions ++ t) (declared_sound p2.rest _ p3.was
-          ∙ ap (λ (t : List Word). declared ++ t) (header_sound p3.value.process p3.rest _ p4.was
-            ∙ ap (λ (t : List Word). header ++ t) (many_sound kind.Name (step_read p4.value) (spelled_step p4.value) (step_sound p4.value) (length p4.rest) p4.rest _ p5.was
-              ∙ ap (λ (t : List Word). steps ++ t) (end_sound p4.value p3.value.process p5.rest _ p6.was))))
-        ∙ regroup_file definitions declared header steps last p6.rest))
+    then (many_sound kind.Type definition_read spelled_definition definition_sound (length p1.rest) p1.rest _ p2.was
+    ∙ ap (λ (t : List Word). definitions ++ t) (declared_sound p2.rest _ p3.was
+    ∙ ap (λ (t : List Word). declared ++ t) (header_sound p3.value.process p3.rest _ p4.was
+    ∙ ap (λ (t : List Word). header ++ t) (many_sound kind.Name (step_read p4.value) (spelled_step p4.value) (step_sound p4.value) (length p4.rest) p4.rest _ p5.was
+    ∙ ap (λ (t : List Word). steps ++ t) (end_sound p4.value p3.value.process p5.rest _ p6.was))))
+    ∙ regroup_file definitions declared header steps last p6.rest))

@@ -7,9 +7,7 @@ use std::alloc::AllocError;
 #[derive(Clone, Copy, Debug, PartialEq, Eq)]
 pub enum ParseErr {
     /// The text has a form that isn't built yet; `at` is the byte at which it begins.
-    NotYet {
-        at: u32,
-    },
+    NotYet { at: u32 },
     /// Memory is wanting.
     Memory,
 }

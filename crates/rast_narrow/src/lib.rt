@@ -5,6 +5,11 @@ mod error;
 mod parts;
 mod reader;
 mod tree;
+mod whole;
 
 pub use error::ParseErr;
 pub use tree::{Alternative, Declared, Definition, File, Part};
+pub use whole::parse;
+
+#[cfg(test)]
+mod tests;

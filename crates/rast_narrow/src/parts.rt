@@ -30,10 +30,7 @@ fn further(alloc: Global, reader: &mut Reader<'_>) -> Result<Alternative, ParseE
 }
 
 // Reads as many alternatives as there are, each after a comma.
-fn alternatives(
-    alloc: Global,
-    reader: &mut Reader<'_>,
-) -> Result<Items<Alternative>, ParseErr>
+fn alternatives(alloc: Global, reader: &mut Reader<'_>) -> Result<Items<Alternative>, ParseErr>
     ensures { Reads result reader.new (many_read kind.Comma further_read (length reader.old) reader.old) }
 {
     let mut rest = Items::new(alloc);
@@ -121,11 +118,7 @@ fn step(alloc: Global, reader: &mut Reader<'_>, channel: &Name) -> Result<Name, 
 }
 
 // Reads as many steps as there are, and gives their labels.
-fn steps(
-    alloc: Global,
-    reader: &mut Reader<'_>,
-    channel: &Name,
-) -> Result<Items<Name>, ParseErr>
+fn steps(alloc: Global, reader: &mut Reader<'_>, channel: &Name) -> Result<Items<Name>, ParseErr>
     ensures { Reads result reader.new (many_read kind.Name (step_read channel.now) (length reader.old) reader.old) }
 {
     let mut labels = Items::new(alloc);

@@ -1,7 +1,8 @@
 // Reading a list of tokens from its beginning.
 ghost use Rattle.std.specs.Prelude.{◌≡◌, ◌≤◌, ◌+◌, length, All};
 ghost use Rattle.rast_ast.specs.Kinds.{is_kind};
-ghost use Rattle.rast_narrow.specs.Words.{Word, words, IsToken, bytes_of};
+ghost use Rattle.rast_narrow.specs.Words.{Word, words, IsToken};
+ghost use Rattle.rast_lex.specs.Seen.{slice_of};
 ghost use Rattle.rast_narrow.specs.Reading.{starts, skip_read, name_read, same_read, one_read, part_read};
 ghost use Rattle.rast_narrow.specs.Reads.{Reads};
 
@@ -41,7 +42,7 @@ fn same_kind(a: Kind, b: Kind) -> bool
 // The bytes of a token.
 fn bytes_at<'a>(text: &'a [u8], token: &Token) -> &'a [u8]
     requires { token.now.at + token.now.len ≤ length text.now }
-    ensures { result.now ≡ bytes_of text.now token.now }
+    ensures { result.now ≡ slice_of text.now token.now }
 {
     let at = token.at as usize;
     &text[at..at + token.len as usize]
@@ -106,8 +107,7 @@ impl<'a> Reader<'a> {
         match self.tokens {
             [token, rest @ ..]
                 if same_kind(token.kind, Kind::Name)
-                    && bytes_at(self.text, token) == name.as_bytes() =>
-            {
+                    && bytes_at(self.text, token) == name.as_bytes() => {
                 self.tokens = rest;
                 Ok(())
             }
@@ -122,8 +122,7 @@ impl<'a> Reader<'a> {
         match self.tokens {
             [token, rest @ ..]
                 if same_kind(token.kind, Kind::Number)
-                    && bytes_at(self.text, token) == b"1".as_slice() =>
-            {
+                    && bytes_at(self.text, token) == b"1".as_slice() => {
                 self.tokens = rest;
                 Ok(())
             }
