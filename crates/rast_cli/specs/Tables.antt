@@ -9,7 +9,10 @@ use Rattle.rast_types.specs.declared.table.TypeDef.{TypeDef}
 use Rattle.rast_terms.specs.declared.node.Node.{Node}
 use Rattle.rast_terms.specs.declared.node.Node.TheVariants as node
 use Rattle.rast_terms.specs.declared.program.Program.{Program}
+use Rattle.rast_terms.specs.declared.program.Decl.{Decl}
+use Rattle.rast_terms.specs.declared.program.Said.{Said}
 use Rattle.rast_narrow.specs.declared.tree.File.{File}
+use Rattle.rast_narrow.specs.declared.tree.Declared.{Declared}
 use Rattle.rast_narrow.specs.declared.tree.Definition.{Definition}
 use Rattle.rast_narrow.specs.declared.tree.Alternative.{Alternative}
 use Rattle.rast_narrow.specs.declared.tree.Part.{Part}
@@ -58,15 +61,25 @@ abbrev pub nodes_from : List (List ℕ) → ℕ → List (List ℕ) → List Nod
 nodes_from names k [] = node.Close 0 ∷ []
 nodes_from names k (l ∷ ls) = node.Label 0 (place names l) (k + 1) ∷ nodes_from names (k + 1) ls
 
-abbrev pub program_of : File → Program
-program_of f =
-    let names = names_of f in
+abbrev pub decl_of : List (List ℕ) → List Definition → Declared → Decl
+decl_of names ds d = record { name = place names d.process; params = 0; uses = []; potential = nought; gives = ty.Named (definition_place ds d.provided_type) []; body = 0 }
+
+abbrev pub said_of : List (List ℕ) → List Definition → Declared → Said
+said_of names ds d = record { types = map (λ e. []) ds; decls = [] ∷ []; channels = (place names d.provided ∷ []) ∷ [] }
+
+-- the tables with these names
+abbrev pub tables_of : List (List ℕ) → File → Program
+tables_of names f =
     record {
       names = names;
       types = record { defs = map (type_def_of names f.definitions) f.definitions };
-      decls = record { name = place names f.declared.process; params = 0; uses = []; potential = nought; gives = ty.Named (definition_place f.definitions f.declared.provided_type) []; body = 0 } ∷ [];
+      decls = decl_of names f.definitions f.declared ∷ [];
       equations = [];
       nodes = nodes_from names 0 f.labels;
       main = Some 0;
-      said = record { types = map (λ d. []) f.definitions; decls = [] ∷ []; channels = (place names f.declared.provided ∷ []) ∷ [] };
+      said = said_of names f.definitions f.declared;
     }
+
+-- the program of a file
+abbrev pub program_of : File → Program
+program_of f = tables_of (names_of f) f

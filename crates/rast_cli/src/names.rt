@@ -1,6 +1,7 @@
 // The names of a file, each once.
 ghost use Rattle.std.specs.Prelude.{◌≡◌, OnOk, IfOk, map, ◌∷◌, ◌++◌};
-ghost use Rattle.std.specs.List.{flat_map};
+ghost use Rattle.std.specs.List.{flat_map, list_any};
+ghost use Rattle.std.specs.Str.{bytes_eq};
 ghost use Rattle.rast_cli.specs.Tables.{added, all_added, definition_names, names_of, place, definition_place};
 
 use rast_ast::Name;
@@ -8,11 +9,25 @@ use rast_narrow::{Definition, File};
 use sqlite_items::Items;
 use std::alloc::{AllocError, Global};
 
+// Whether two names are the same.
+fn is_same(one: &Name, other: &Name) -> bool
+    ensures { result ≡ bytes_eq one.now other.now }
+{
+    one.as_bytes() == other.as_bytes()
+}
+
+// Whether it is one of the names.
+fn has(names: &[Name], name: &Name) -> bool
+    ensures { result ≡ list_any (λ n. bytes_eq n name.now) names.now }
+{
+    names.iter().any(|n| is_same(n, name))
+}
+
 // Adds a name, unless it is there.
 fn add(alloc: Global, names: &mut Items<Name>, name: &Name) -> Result<(), AllocError>
     ensures { OnOk result (names.new ≡ added names.old name.now) }
 {
-    if names.as_slice().iter().any(|n| n.as_bytes() == name.as_bytes()) {
+    if has(names.as_slice(), name) {
         return Ok(());
     }
     names.push(Name::new(alloc, name.as_bytes())?)
@@ -44,6 +59,7 @@ fn add_all(alloc: Global, names: &mut Items<Name>, more: &[Name]) -> Result<(), 
     Ok(())
 }
 
+#[tactic(auto, using(crate::proofs::Added::steps))]
 // Adds the names of definitions.
 fn add_definitions(
     alloc: Global,
@@ -58,6 +74,7 @@ fn add_definitions(
     Ok(())
 }
 
+#[tactic(auto, using(crate::proofs::Added::steps))]
 // The names of a file.
 pub fn names_of(alloc: Global, file: &File) -> Result<Items<Name>, AllocError>
     ensures { IfOk result (λ names. names ≡ names_of file.now) }
@@ -74,16 +91,36 @@ pub fn names_of(alloc: Global, file: &File) -> Result<Items<Name>, AllocError>
 pub fn place(names: &[Name], name: &Name) -> Result<u32, AllocError>
     ensures { IfOk result (λ i. i ≡ place names.now name.now) }
 {
-    let found = names.iter().position(|n| n.as_bytes() == name.as_bytes());
-    numbered(found.unwrap_or(names.len()))
+    numbered(place_in(names, name))
 }
 
 // The number of the first definition of this name, or how many there are where it has none.
 pub fn definition_place(definitions: &[Definition], name: &Name) -> Result<u32, AllocError>
     ensures { IfOk result (λ i. i ≡ definition_place definitions.now name.now) }
 {
-    let found = definitions.iter().position(|d| d.name.as_bytes() == name.as_bytes());
-    numbered(found.unwrap_or(definitions.len()))
+    numbered(definition_place_in(definitions, name))
+}
+
+fn place_in(names: &[Name], name: &Name) -> usize
+    ensures { result ≡ place names.now name.now }
+{
+    for (i, n) in names.iter().enumerate() {
+        if is_same(n, name) {
+            return i;
+        }
+    }
+    names.len()
+}
+
+fn definition_place_in(definitions: &[Definition], name: &Name) -> usize
+    ensures { result ≡ definition_place definitions.now name.now }
+{
+    for (i, d) in definitions.iter().enumerate() {
+        if is_same(&d.name, name) {
+            return i;
+        }
+    }
+    definitions.len()
 }
 
 // A place as a number of the tables, which a machine's memory allows.
