@@ -1,6 +1,6 @@
 -- Entries of channels: the first of a channel, and lists with one changed or left out.
 use Rattle.std.proofs.Common.{◌≡◌, ℕ, zero, suc, Bool, true, false, ◌==◌, ◌+◌, ◌-◌, ◌<◌, ◌≤◌, List, [], ◌∷◌, ◌++◌, Option, Some, None, arith, refl, sym, ap, ◌∙◌, subst, length, take, drop, get_or, set, remove, replicate, if◌then◌else◌, eq-eqb, ne_eqb}
-use Rattle.std.proofs.lemmas.List.{length-append, length-take, length-drop, set_at, take-append-le, drop-append-le, drop-set-lt, drop-drop, drop-replicate}
+use Rattle.std.proofs.lemmas.List.{at_drop_more, length-append, length-take, length-drop, set_at, take-append-le, drop-append-le, drop-set-lt, drop-drop, drop-replicate}
 use Rattle.rast_index.specs.Keys.{find_key, set_key, drop_key, IsPlace}
 
 skip_none : {A : Type 0} (b : Bool) (x : A) (o : Option A) → (if b then Some x else o) ≡ None → (b ≡ false) × (o ≡ None)
@@ -98,3 +98,10 @@ pub filled_more : {A : Type 0} (a v : A) (n c : ℕ) (xs : List A) → c < n →
 filled_more {A} a v n c xs h l d =
     let k : n - c - 1 ≡ n - (c + 1) = omega arith in
     drop-set-lt (c + 1) xs c v (omega arith) ∙ (sym (drop-drop 1 c xs) ∙ (ap (λ (ys : List A). drop 1 ys) d ∙ (drop-replicate 1 (n - c) a ∙ ap (λ (j : ℕ). replicate j a) k)))
+
+-- the entry at a place has the key, or the rest of the list is left
+pub find_here : {A : Type 0} (k : ℕ) (es : List (ℕ × A)) (i : ℕ) (d : ℕ × A) → i < length es → (get_or es i d).0 ≡ k → find_key k (drop i es) ≡ Some (get_or es i d).1
+find_here k es i d l h = at_drop_more (find_key k) es i d l ∙ ap (λ b. if b then Some (get_or es i d).1 else find_key k (drop (i + 1) es)) (eq-eqb (get_or es i d).0 k h)
+
+pub find_on : {A : Type 0} (k : ℕ) (es : List (ℕ × A)) (i : ℕ) (d : ℕ × A) → i < length es → ((get_or es i d).0 ≡ k → ⊥) → find_key k (drop i es) ≡ find_key k (drop (i + 1) es)
+find_on k es i d l h = at_drop_more (find_key k) es i d l ∙ past k (get_or es i d) (drop (i + 1) es) (not_same (get_or es i d).0 k h)
