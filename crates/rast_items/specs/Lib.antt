@@ -8,3 +8,4 @@ pub mod Run
 pub mod Solo
 pub mod Slack
 pub mod Actions
+pub mod Ends

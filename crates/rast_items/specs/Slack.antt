@@ -1,5 +1,5 @@
 -- How far the numbers of an item are from the limits of their types.
-use Rattle.std.specs.Prelude.{ℕ, ◌+◌, ◌*◌, ◌^◌, ◌<◌, List, [], ◌∷◌, All}
+use Rattle.std.specs.Prelude.{ℕ, ◌+◌, ◌*◌, ◌^◌, ◌<◌, ◌≤◌, List, [], ◌∷◌, length, All}
 use Rattle.rast_items.specs.Items.{Link, Body, Chan, Msg, Item, P, M, Proc, carried}
 
 -- so many more messages may come on the link
@@ -22,6 +22,7 @@ pub record IsSlack (s : ℕ) (m : Msg) : Type 0 where
   pub carried : All (IsOpen s) (carried m.body)
   pub moment : m.moment + s * 2 ^ 64 < 2 ^ 97
 
+-- a process has at most 16 channels, the provided one counted
 abbrev pub IsItemSlack : ℕ → Item → Type 0
-IsItemSlack s (P p) = HasSlack s p
+IsItemSlack s (P p) = HasSlack s p × (length p.uses ≤ 15)
 IsItemSlack s (M m) = IsSlack s m
