@@ -3,8 +3,6 @@
 
 mod formula;
 mod term;
-mod value;
 
 pub use formula::{Formula, Rel};
 pub use term::Lin;
-pub use value::eval;
