@@ -1,4 +1,4 @@
--- Lists of keys and values.
+-- Lists of keys and values: what stands beside a key, and lists with one entry changed or left out.
 use Rattle.std.specs.Prelude.{ℕ, ◌==◌, List, [], ◌∷◌, Option, Some, None, if◌then◌else◌, ◌≡◌, ◌<◌, length, take, get_or, ◌+◌}
 
 -- what stands beside a key

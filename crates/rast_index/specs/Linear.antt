@@ -1,4 +1,4 @@
--- Linear terms.
+-- Linear terms: their values, their numbers, and the terms that are made from others.
 use Rattle.std.specs.Prelude.{ℕ, zero, suc, map, slice_index_or as get_or, ℤ, pos, negsuc, ◌+ℤ◌, ◌*ℤ◌, ◌^◌, ◌==◌, Bool, ◌&&◌, not, nat_lt, int_lt, List, [], ◌∷◌, if◌then◌else◌}
 use Rattle.std.specs.List.{list_all}
 
@@ -66,13 +66,26 @@ less a b = from_parts (λ j. part a j +ℤ (negsuc 0 *ℤ part b j))
 abbrev pub plus : Linear → Linear → Linear
 plus a b = from_parts (λ j. part a j +ℤ part b j)
 
+-- k times the term
+abbrev pub times : ℕ → Linear → Linear
+times k a = from_parts (λ j. pos k *ℤ part a j)
+
+-- the term with these numbers, the constant first
+abbrev pub from_numbers : List ℤ → Linear
+from_numbers [] = record { constant = pos 0; coefficients = [] }
+from_numbers (c ∷ cs) = record { constant = c; coefficients = cs }
+
 abbrev pub base_part : Linear → ℕ → ℤ
 base_part l zero = l.constant
 base_part l (suc j) = pos 0
 
+-- one part of a term whose variables are replaced: its own, and what each argument brings
+abbrev pub mixed : Linear → List Linear → ℕ → ℤ
+mixed l args j = base_part l j +ℤ weighted l.coefficients (map (λ a. part a j) args)
+
 -- a term with each variable replaced by an argument
 abbrev pub replaced : List Linear → Linear → Linear
-replaced args l = from_parts (λ j. base_part l j +ℤ weighted l.coefficients (map (λ a. part a j) args))
+replaced args l = from_parts (mixed l args)
 
 -- the variables 0, 1, .. , n of them
 abbrev pub variables : ℕ → List Linear

@@ -1,4 +1,4 @@
--- What a formula says.
+-- Formulas: their truth, whether one follows from others, and formulas with their variables replaced.
 use Rattle.std.specs.Prelude.{◌≡◌, length, ℕ, ℤ, ◌%◌, Bool, true, false, not, ◌&&◌, ◌||◌, eqb, List, int_lt}
 use Rattle.std.specs.List.{list_all, list_any}
 use Rattle.rast_index.specs.Linear.{Linear, value, magnitude, replaced, is_small, int_eq, whole, is_closed}

@@ -1,0 +1,5 @@
+pub mod EntryLemmas
+pub mod ChannelLemmas
+pub mod SlackLemmas
+pub mod Readings
+pub mod HandOver

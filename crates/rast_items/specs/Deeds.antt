@@ -1,5 +1,5 @@
 -- What one process does next, by its node alone.
-use Rattle.std.specs.Prelude.{ℕ, Bool, false, ◌==◌, List, [], ◌∷◌, Option, Some, None, zero, suc, ◌+◌, ◌-◌, ◌++◌, ◌^◌, ℤ, pos, negsuc, max, nat_le, if◌then◌else◌, slice_get, map, length, take, slice_index_or as get_or}
+use Rattle.std.specs.Prelude.{ℕ, Bool, false, ◌==◌, ◌&&◌, List, [], ◌∷◌, Option, Some, None, zero, suc, ◌+◌, ◌-◌, ◌++◌, ◌^◌, ℤ, pos, negsuc, max, nat_le, nat_lt, if◌then◌else◌, slice_get, map, length, slice_index_or as get_or}
 use Rattle.rast_index.specs.Keys.{find_key, set_key, drop_key, numbered, pull}
 use Rattle.rast_index.specs.Linear.{Linear, nought, value, whole}
 use Rattle.rast_terms.specs.declared.program.Program.{Program}
@@ -143,24 +143,37 @@ process_at k d vs ls moment q = record { pid = pid_at k; node = d.body; values =
 abbrev pub parent_after : ℕ → Proc → List (ℕ × Link) → ℕ → ℕ → Proc
 parent_after k p rest q n = at_node (with_channel (record p { uses = rest; potential = p.potential - q; spawned = p.spawned + 1 }) (link_at k 0)) n
 
+-- whether a process with these used channels may have one more: it has at most 16, the provided one counted
+abbrev pub has_room : List (ℕ × Link) → Bool
+has_room us = nat_lt (length us) 15
+
 abbrev pub makes : ℕ → Proc → ℕ → Decl → (List Link × List (ℕ × Link)) → ℕ → List ℕ → ℕ → Deed
 makes k p d decl r n vs q =
-    if nat_le q p.potential then Makes (process_at k decl vs r.0 p.moment q) (parent_after k p r.1 q n) d else Breaks
+    if nat_le q p.potential && has_room r.1 then Makes (process_at k decl vs r.0 p.moment q) (parent_after k p r.1 q n) d else Breaks
 
 abbrev pub turns : Proc → ℕ → Decl → List Link → List (ℕ × Link) → List ℕ → Deed
 turns p d decl ls [] vs = Turns (record p { node = decl.body; values = vs; uses = numbered 1 ls; fresh = length ls + 1; steps = p.steps + 1 }) d
 turns p d decl ls (u ∷ us) vs = Breaks
 
--- the arguments' values, and then the callee's potential
-abbrev pub callee_values : Proc → List Linear → Decl → List ℤ
-callee_values p es decl = let zs : List ℤ = map (at_values p) es in zs ++ value decl.potential zs ∷ []
+-- the values of a callee's arguments
+abbrev pub argument_values : Proc → List Linear → List ℤ
+argument_values p es = map (at_values p) es
+
+-- the callee's potential at its arguments
+abbrev pub handed_over : Decl → List ℕ → List ℤ
+handed_over decl ns = value decl.potential (whole ns) ∷ []
+
+-- what is done with the values of at most 16 arguments and then with the callee's potential at them
+abbrev pub with_arguments : Proc → List Linear → Decl → (List ℕ → ℕ → Deed) → Deed
+with_arguments p es decl then_do =
+    if nat_le (length es) 16 then with_values (argument_values p es) (λ ns. with_values (handed_over decl ns) (λ qs. then_do ns (first qs))) else Breaks
 
 abbrev pub makes_at : ℕ → Proc → List Linear → ℕ → ℕ → Option Decl → Option (List Link × List (ℕ × Link)) → Deed
-makes_at k p es d n (Some decl) (Some r) = with_values (callee_values p es decl) (λ ns. makes k p d decl r n (take (length es) ns) (get_or ns (length es) 0))
+makes_at k p es d n (Some decl) (Some r) = with_arguments p es decl (λ ns q. makes k p d decl r n ns q)
 makes_at k p es d n decl r = Breaks
 
 abbrev pub turns_at : Proc → List Linear → ℕ → Option Decl → Option (List Link × List (ℕ × Link)) → Deed
-turns_at p es d (Some decl) (Some r) = with_values (callee_values p es decl) (λ ns. turns p d decl r.0 r.1 (take (length es) ns))
+turns_at p es d (Some decl) (Some r) = with_arguments p es decl (λ ns q. turns p d decl r.0 r.1 ns)
 turns_at p es d decl r = Breaks
 
 abbrev pub works : Proc → ℕ → ℕ → Deed
@@ -204,11 +217,12 @@ abbrev pub at_branch : Proc → Option ℕ → Option Proc
 at_branch p None = None
 at_branch p (Some n) = Some (at_node p n)
 
--- the process after a node took this body; p has the channel's next link; none where the node doesn't take the body
+-- the process after a node took this body; p has the channel's next link; none where the node doesn't take the body,
+-- or where there would be a 17th channel or a 17th variable
 abbrev pub took : Node → Proc → Body → Option Proc
 took (node.Case x bs) p (Label l) = at_branch p (find_key l bs)
-took (node.Recv x y n) p (Chan c) = Some (at_node (with_channel p c) n)
-took (node.Bind x v n) p (Nat i) = Some (at_node (record p { values = p.values ++ i ∷ [] }) n)
+took (node.Recv x y n) p (Chan c) = if has_room p.uses then Some (at_node (with_channel p c) n) else None
+took (node.Bind x v n) p (Nat i) = if nat_lt (length p.values) 16 then Some (at_node (record p { values = p.values ++ i ∷ [] }) n) else None
 took (node.Assume x n) p Assert = Some (at_node p n)
 took (node.Get x n) p Pay = Some (at_node p n)
 took (node.Wait x n) p End = Some (at_node (less_channel p x) n)

@@ -10,11 +10,7 @@ pub use Rattle.rast_items.specs.declared.message.Msg.{Msg}
 pub use Rattle.rast_items.specs.declared.item.Item.{Item}
 pub use Rattle.rast_items.specs.declared.item.Item.TheVariants.{Proc as P, Msg as M}
 pub use Rattle.rast_items.specs.Process.{Process as Proc}
-pub use Rattle.rast_items.specs.Links.{same_link, same_pid, same_side, pid_at, link_at}
-
--- the link one higher in the same session
-abbrev pub after_link : Link → Link
-after_link l = record l { index = l.index + 1 }
+pub use Rattle.rast_items.specs.Links.{same_link, same_pid, same_side, pid_at, link_at, after_link}
 
 -- the link that a body carries
 abbrev pub carried : Body → List Link

@@ -6,3 +6,6 @@ pub mod Deeds
 pub mod Step
 pub mod Run
 pub mod Solo
+pub mod Slack
+pub mod Actions
+pub mod Ends

@@ -1,5 +1,5 @@
 -- Tests on numbers, links and sides.
-use Rattle.std.specs.Prelude.{ℕ, Bool, true, false, ◌&&◌, ◌==◌}
+use Rattle.std.specs.Prelude.{ℕ, ◌+◌, Bool, true, false, ◌&&◌, ◌==◌}
 use Rattle.rast_items.specs.declared.link.Link.{Link}
 use Rattle.rast_items.specs.declared.link.Pid.{Pid}
 use Rattle.rast_items.specs.declared.link.Side.{Side}
@@ -22,3 +22,7 @@ pid_at n = record { 0 = n }
 
 abbrev pub link_at : ℕ → ℕ → Link
 link_at s i = record { session = pid_at s; index = i }
+
+-- the link one higher in the same session
+abbrev pub after_link : Link → Link
+after_link l = record l { index = l.index + 1 }

@@ -3,7 +3,7 @@ use crate::link::{Link, Pid};
 use crate::message::Body;
 
 /// One step of one process. `moment` is the process's moment after the event, and at `Move` the message's.
-#[derive(Clone, Copy)]
+#[derive(Clone, Copy, Debug, PartialEq, Eq)]
 pub enum Event {
     /// A message was sent.
     Send {

@@ -2,7 +2,7 @@
 use crate::link::{Link, Side};
 
 /// What a message carries.
-#[derive(Clone, Copy)]
+#[derive(Clone, Copy, Debug, PartialEq, Eq)]
 pub enum Body {
     /// A label, by the number of its name.
     Label(u32),
@@ -19,7 +19,7 @@ pub enum Body {
 }
 
 /// A message on a link.
-#[derive(Clone, Copy)]
+#[derive(Clone, Copy, Debug, PartialEq, Eq)]
 pub struct Msg {
     /// The link on which it was sent.
     pub link: Link,

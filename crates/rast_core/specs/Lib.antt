@@ -1,0 +1,5 @@
+pub mod Words
+pub mod Shown
+pub mod Promises
+pub mod Edits
+pub mod Bounds

@@ -1,0 +1,93 @@
+-- What the calls promise that begin, look at and change configurations.
+use Rattle.std.specs.Prelude.{◌≡◌, ℕ, ℤ, pos, ◌+◌, ◌≤◌, List, [], ◌∷◌, ◌++◌, map, length, take, Option, Some, None, slice_get, IsSome}
+use Rattle.rast_terms.specs.declared.program.Program.{Program}
+use Rattle.rast_rules.specs.declared.judgement.Plan.{Plan}
+use Rattle.rast_core.specs.Words.{Pid, Item, P, Proc, Event}
+use Rattle.rast_items.specs.Deeds.{Code}
+use Rattle.rast_items.specs.Step.{Next as Does, Ready as DReady, Waits as DWaits, Halted as DHalted, Ended as DEnded, Stuck as DStuck}
+use Rattle.rast_items.specs.Run.{State, Birth, IsRun, start_of, replay, step_of, pid_of, born}
+use Rattle.rast_core.specs.Shown.{Shown, IsReplay, origin, run_code, next_of, outcome}
+use Rattle.rast_core.specs.declared.answer.Next.{Next}
+use Rattle.rast_core.specs.declared.answer.Next.TheVariants.{Ready, Waits, Halted, Ended, Stuck}
+use Rattle.rast_core.specs.declared.decision.Decision.{Decision}
+use Rattle.rast_core.specs.declared.decision.Decision.TheVariants.{Does as Do, Waits as Waiting, Halted as Halting, Stuck as Stays}
+use Rattle.rast_core.specs.declared.answer.ReplayErr.{ReplayErr}
+use Rattle.rast_core.specs.declared.answer.ReplayErr.TheVariants.{At, Memory}
+use Rattle.rast_core.specs.declared.answer.Outcome.TheVariants.{Running}
+
+-- a program that has a main with which a run begins
+abbrev pub CanStart : Program → Type 0
+CanStart g = IsSome (start_of g)
+
+abbrev pub IsNatural : ℤ → Type 0
+IsNatural z = (q : ℕ) × (z ≡ pos q)
+
+-- the process with which it begins
+abbrev pub BeginsWith : Program → Proc → Type 0
+BeginsWith g p = (state : State) × (start_of g ≡ Some state) × (state.items ≡ P p ∷ [])
+
+-- the configuration with which a run begins, which keeps the plan and has room for so many events
+pub record IsStart (g : Program) (plan : Plan) (room : ℕ) (v : Shown) : Type 0 where
+  pub state : State
+  pub replayed : IsReplay g v [] state
+  pub plan_is : v.plan ≡ plan
+  pub room_is : v.spare ≡ room
+
+-- what a decision says to those who asked
+abbrev pub IsTold : Decision → Next → Type 0
+IsTold (Do event edit child) r = r ≡ Ready event
+IsTold (Waiting l) r = r ≡ Waits l
+IsTold (Halting v) r = r ≡ Halted v
+IsTold Stays r = r ≡ Stuck
+
+-- what is answered of a process that does this next
+abbrev pub Tells : Does → Next → Type 0
+Tells (DReady e items) r = r ≡ Ready e
+Tells (DWaits l) r = r ≡ Waits l
+Tells (DHalted v) r = r ≡ Halted v
+Tells DEnded r = r ≡ Ended
+Tells DStuck r = r ≡ Stuck
+
+abbrev pub EnabledIs : Program → Shown → Pid → Next → Type 0
+EnabledIs g v pid r = Tells (next_of g v pid) r
+
+-- what a step answers and leaves: where it isn't ready, nothing changes
+abbrev pub Leaves : Does → Shown → Next → Shown → Type 0
+Leaves (DReady e items) old r new = (r ≡ Ready e) × (new.items ≡ items) × (new.origins ≡ old.origins ++ map origin (born e items)) × (new.plan ≡ old.plan) × (new.spare + 1 ≡ old.spare)
+Leaves (DWaits l) old r new = (r ≡ Waits l) × (new ≡ old)
+Leaves (DHalted v) old r new = (r ≡ Halted v) × (new ≡ old)
+Leaves DEnded old r new = (r ≡ Ended) × (new ≡ old)
+Leaves DStuck old r new = (r ≡ Stuck) × (new ≡ old)
+
+abbrev pub StepIs : Program → Shown → Pid → Next → Shown → Type 0
+StepIs g old pid r new = Leaves (next_of g old pid) old r new
+
+-- a run to its end, or to its budget
+pub record IsFullRun (g : Program) (plan : Plan) (budget : ℕ) (v : Shown) (es : List Event) : Type 0 where
+  pub state : State
+  pub replayed : IsReplay g v es state
+  pub plan_is : v.plan ≡ plan
+  pub few : length es ≤ budget
+  pub decided : outcome g v (length es) budget ≡ Running → ⊥
+
+-- the run of a list of picks
+pub record Replayed (g : Program) (plan : Plan) (picks : List Pid) (v : Shown) (es : List Event) : Type 0 where
+  pub state : State
+  pub replayed : IsReplay g v es state
+  pub plan_is : v.plan ≡ plan
+  pub picks_are : map pid_of es ≡ picks
+
+-- the picks before number k are a run, and the process of pick k has no event after it
+pub record StopsAtPick (c : Code) (picks : List Pid) (k : ℕ) : Type 0 where
+  pub begin : State
+  pub is_begin : start_of c.program ≡ Some begin
+  pub state : State
+  pub events : List Event
+  pub before : replay c begin (take k picks) ≡ Some (events, state)
+  pub pick : Pid
+  pub at : slice_get picks k ≡ Some pick
+  pub stops : (e : Event) (items : List Item) → step_of c state pick ≡ DReady e items → ⊥
+
+abbrev pub IsRefusedAt : Program → Plan → List Pid → ReplayErr → Type 0
+IsRefusedAt g plan picks (At k) = StopsAtPick (run_code g plan) picks k
+IsRefusedAt g plan picks Memory = Unit {0}

@@ -1,0 +1,41 @@
+// What the calls answer.
+use rast_items::{Event, Link, Pid};
+
+/// What a process does next.
+#[derive(Clone, Copy, Debug, PartialEq, Eq)]
+pub enum Next {
+    /// This event.
+    Ready(Event),
+    /// It needs a message on this link, and there is none.
+    Waits(Link),
+    /// It would need this index value, which is 2^64 or more.
+    Halted(u128),
+    /// There is no such process.
+    Ended,
+    /// No rule says what it does, or the message that it needs isn't one that it takes.
+    Stuck,
+}
+
+/// How far a run has come.
+#[derive(Clone, Copy, Debug, PartialEq, Eq)]
+pub enum Outcome {
+    /// Some process has an event, and the budget isn't used.
+    Running,
+    /// No process has an event, none is halted, and each item waits for a client.
+    Finished,
+    /// The budget is used, and some process has an event.
+    OutOfBudget,
+    /// No process has an event, and this is the first in the list that is halted, at this value.
+    IndexLimit { pid: Pid, value: u128 },
+    /// No process has an event, none is halted, and some item doesn't wait for a client.
+    Blocked,
+}
+
+/// Why a list of picks isn't replayed.
+#[derive(Clone, Copy, Debug, PartialEq, Eq)]
+pub enum ReplayErr {
+    /// The process of this pick, counted from 0, has no event.
+    At { place: u32 },
+    /// There is no memory.
+    Memory,
+}

@@ -1,0 +1,196 @@
+// A configuration as a plain list.
+ghost use Rattle.std.specs.Prelude.{◌≡◌, ◌≤◌, ◌<◌, ◌+◌, ◌-◌, ◌++◌, IfOk, MatchOption, None, Some, slice_get, length, option_to_list};
+ghost use Rattle.rast_items.specs.Step.{Ended, cut, is_proc};
+ghost use Rattle.rast_core.specs.Shown.{next_of};
+ghost use Rattle.rast_core.specs.Edits.{Decides, IsCutAt, IsApt, edited};
+ghost use Rattle.rast_core.specs.Bounds.{IsBounded};
+ghost use Rattle.rast_core.specs.Promises.{CanStart, IsStart, EnabledIs, StepIs, IsTold};
+
+use crate::answer::Next;
+use crate::decide::decide;
+use crate::decision::{Decision, Edit};
+use crate::edit::apply;
+use crate::find::{find_process, is_process};
+use crate::main_process::begin;
+use crate::origin::Origin;
+use rast_items::{Item, Pid, Proc};
+use rast_rules::Plan;
+use rast_terms::Program;
+use std::alloc::{AllocError, Global};
+use std::marker::Model;
+
+/// The items of a run in order, where each process came from, and the plan of the run.
+/// After its start it takes no memory.
+#[derive(Drop)]
+pub struct Config {
+    items: Vec<Item>,
+    origins: Vec<Origin>,
+    plan: Plan,
+    spare: u32,
+    /// A place at which the process may stand that is asked for next.
+    last: usize,
+}
+
+impl Model for Config {
+    ghost use Rattle.std.specs.Prelude.{◌+◌, ◌≤◌, vec_len, vec_capacity, length};
+    ghost use Rattle.rast_core.specs.Shown.{Shown};
+
+    ghost Value = { Shown };
+
+    ghost use Rattle.rast_core.specs.Bounds.{IsBounded};
+
+    ghost view = { λ c. record { items = c.items.items; origins = c.origins.items; plan = c.plan; spare = c.spare } };
+
+    ghost invariant = { λ c. (vec_len c.items + c.spare ≤ vec_capacity c.items) × (vec_len c.origins + c.spare ≤ vec_capacity c.origins) × IsBounded c.items.items (length c.origins.items) c.spare };
+}
+
+impl Config {
+    /// The beginning of a run: main's one process, with room for `room` events. It keeps the plan.
+    /// No memory is also answered where `room` is close to 2^32.
+    pub fn start(
+        alloc: Global,
+        program: &Program,
+        plan: Plan,
+        room: u32,
+    ) -> Result<Config, AllocError>
+        requires { CanStart program.now }
+        ensures { IfOk result (λ c. IsStart program.now plan room c) }
+    {
+        if room > u32::MAX - 64 {
+            return Err(AllocError);
+        }
+        let capacity = room as usize + 1;
+        let mut items = Vec::with_capacity(alloc, capacity)?;
+        let mut origins = Vec::with_capacity(alloc, capacity)?;
+        items.push(Item::Proc(begin(program)))?;
+        origins.push(Origin {
+            parent: Pid(0),
+            ordinal: 0,
+        })?;
+        Ok(Config {
+            items,
+            origins,
+            plan,
+            spare: room,
+            last: 0,
+        })
+    }
+
+    /// For how many more events there is room.
+    pub fn spare(&self) -> u32
+        ensures { result ≡ self.now.spare }
+    {
+        self.spare
+    }
+
+    /// The items in order.
+    pub fn items(&self) -> &[Item]
+        ensures { result.now ≡ self.now.items }
+    {
+        &self.items
+    }
+
+    /// What a process does next. It takes no memory.
+    pub fn enabled(&self, program: &Program, pid: Pid) -> Next
+        ensures { EnabledIs program.now self.now pid result }
+    {
+        match self.decided(program, pid) {
+            None => Next::Ended,
+            Some((_, decision)) => told(decision),
+        }
+    }
+
+    /// Does the next event of a process, if it has one; else nothing changes. It takes no memory.
+    pub fn step(&mut self, program: &Program, pid: Pid) -> Next
+        requires { 1 ≤ self.old.spare }
+        ensures { StepIs program.now self.old pid result self.new }
+    {
+        let Some((place, decision)) = self.decided(program, pid) else {
+            return Next::Ended;
+        };
+        match decision {
+            Decision::Does { event, edit, child } => {
+                self.perform(place, edit, child);
+                Next::Ready(event)
+            }
+            Decision::Waits(link) => Next::Waits(link),
+            Decision::Halted(value) => Next::Halted(value),
+            Decision::Stuck => Next::Stuck,
+        }
+    }
+
+    /// What is to be done for a process, with its place; none where there is no such process.
+    pub(crate) fn decided(&self, program: &Program, pid: Pid) -> Option<(usize, Decision)>
+        ensures { MatchOption result (next_of program.now self.now pid ≡ Ended) (λ r. (r.0 < length self.now.items) × Decides (next_of program.now self.now pid) self.now.items r.0 r.1) }
+    {
+        let place = self.place_of(pid)?;
+        match &self.items[place] {
+            Item::Proc(proc) => Some((place, self.decided_at(program, place, proc))),
+            Item::Msg(_) => unreachable!(),
+        }
+    }
+
+    /// What is to be done for the process at its place.
+    fn decided_at(&self, program: &Program, place: usize, proc: &Proc) -> Decision
+        requires here { IsCutAt (is_proc proc.now.pid) self.now.items place }
+        requires at { slice_get self.now.items place ≡ Some (Item.Proc proc.now) }
+        ensures { Decides (next_of program.now self.now proc.now.pid) self.now.items place result }
+    {
+        let made = self.origins.len() as u32;
+        decide(program, &self.plan, made, &self.items, place, proc)
+    }
+
+    /// The place of a process.
+    fn place_of(&self, pid: Pid) -> Option<usize>
+        ensures { MatchOption result (cut (is_proc pid) self.now.items ≡ None) (λ i. IsCutAt (is_proc pid) self.now.items i) }
+    {
+        if self.last < self.items.len() && is_process(&self.items[self.last], pid) {
+            return Some(self.last);
+        }
+        find_process(&self.items, pid)
+    }
+
+    /// Changes the list for the process at a place, and notes where a child comes from.
+    fn perform(&mut self, place: usize, edit: Edit, child: Option<Origin>)
+        requires place { place < length self.old.items }
+        requires apt { IsApt edit self.old.items }
+        requires spare { 1 ≤ self.old.spare }
+        requires bounded { IsBounded (edited edit self.old.items place) (length (self.old.origins ++ option_to_list child)) (self.old.spare - 1) }
+        ensures items { self.new.items ≡ edited edit self.old.items place }
+        ensures origins { self.new.origins ≡ self.old.origins ++ option_to_list child }
+        ensures plan { self.new.plan ≡ self.old.plan }
+        ensures spare { self.new.spare + 1 ≡ self.old.spare }
+    {
+        let last = place_after(place, &edit);
+        apply(&mut self.items, place, edit);
+        if let Some(origin) = child {
+            self.origins.push(origin).unwrap();
+        }
+        self.spare -= 1;
+        self.last = last;
+    }
+}
+
+/// What a decision says to those who asked.
+fn told(decision: Decision) -> Next
+    ensures { IsTold decision result }
+{
+    match decision {
+        Decision::Does { event, .. } => Next::Ready(event),
+        Decision::Waits(link) => Next::Waits(link),
+        Decision::Halted(value) => Next::Halted(value),
+        Decision::Stuck => Next::Stuck,
+    }
+}
+
+/// A place at which the process may stand after an edit.
+fn place_after(place: usize, edit: &Edit) -> usize {
+    match edit {
+        Edit::Two {
+            first: Item::Msg(_),
+            ..
+        } => place.saturating_add(1),
+        Edit::Merge { at, .. } => *at,
+        _ => place,
+    }
+}

@@ -1,0 +1,28 @@
+// Changes of the list of items.
+ghost use Rattle.std.specs.Prelude.{◌≡◌, ◌<◌, ◌≤◌, ◌+◌, vec_len, vec_capacity};
+ghost use Rattle.rast_core.specs.Edits.{edited, IsApt};
+
+use crate::decision::Edit;
+use rast_items::Item;
+
+/// Does an edit for the process at a place, where there is room for one item more. It takes no memory.
+pub(crate) fn apply(items: &mut Vec<Item>, place: usize, edit: Edit)
+    requires place { place < vec_len items.old }
+    requires apt { IsApt edit items.old.items }
+    requires room { vec_len items.old < vec_capacity items.old }
+    ensures items { items.new.items ≡ edited edit items.old.items place }
+    ensures length { vec_len items.new ≤ vec_len items.old + 1 }
+    ensures capacity { vec_capacity items.old ≤ vec_capacity items.new }
+{
+    match edit {
+        Edit::Replace { item } => items[place] = item,
+        Edit::Two { first, second } => {
+            items[place] = first;
+            items.insert(place + 1, second).unwrap();
+        }
+        Edit::Merge { at, item, gone } => {
+            items[at] = item;
+            let _gone = items.remove(gone);
+        }
+    }
+}

@@ -1,0 +1,16 @@
+//! Configurations, their steps and their runs.
+#![tactic(auto)]
+
+mod answer;
+mod config;
+mod decide;
+mod decision;
+mod edit;
+mod find;
+mod main_process;
+mod messages;
+mod origin;
+
+pub use answer::{Next, Outcome, ReplayErr};
+pub use config::Config;
+pub use origin::Origin;

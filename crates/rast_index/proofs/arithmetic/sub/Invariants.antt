@@ -1,0 +1,7 @@
+use Rattle.std.proofs.Common.{◌+ℤ◌, ◌*ℤ◌, negsuc}
+use Rattle.rast_index.specs.Linear.{part}
+use Rattle.rast_index.proofs.Filled.{Filled}
+use Rattle.rast_index.proofs.arithmetic.sub.Given as goal
+
+abbrev pub invariant-loop-j : goal.invariant-loop-j
+invariant-loop-j l = Filled (λ j. part l.a j +ℤ (negsuc 0 *ℤ part l.b j)) 17 l.numbers l.j
