@@ -1,1 +1,4 @@
 pub mod Added
+pub mod WordLemmas
+pub mod AnswerLemmas
+pub mod WriteLemmas

@@ -1,1 +1,5 @@
 pub mod Tables
+pub mod Lines
+pub mod Asked
+pub mod Reported
+pub mod Answered

@@ -1,19 +1,18 @@
 -- What was spelled is read.
-use Rattle.std.proofs.Common.{◌≡◌, ℕ, zero, suc, ◌+◌, ◌≤◌, Bool, true, false, List, [], ◌∷◌, ◌++◌, Some, None, refl, sym, ap, ◌∙◌, subst, append_assoc, append-nil, length, length-append, arith}
+use Rattle.std.proofs.Common.{◌≡◌, ℕ, zero, suc, ◌≤◌, true, false, List, [], ◌∷◌, ◌++◌, Some, refl, append_assoc, length, length-append, arith}
 use Rattle.std.specs.List.{flat_map}
 use Rattle.std.specs.Str.{bytes_eq}
 use Rattle.std.proofs.lemmas.Slice.Eq.{bytes_eq-Decides}
 use Rattle.rast_ast.specs.declared.kind.Kind.{Kind}
 use Rattle.rast_ast.specs.declared.kind.Kind.TheVariants as kind
 use Rattle.rast_narrow.specs.declared.tree.File.{File}
-use Rattle.rast_narrow.specs.declared.tree.Declared.{Declared}
 use Rattle.rast_narrow.specs.declared.tree.Definition.{Definition}
 use Rattle.rast_narrow.specs.declared.tree.Alternative.{Alternative}
 use Rattle.rast_narrow.specs.declared.tree.Part.{Part}
 use Rattle.rast_narrow.specs.declared.tree.Part.TheVariants.{One, Named}
-use Rattle.rast_narrow.specs.Words.{Word, Name, Number, Fixed}
+use Rattle.rast_narrow.specs.Words.{Word, Name, Fixed}
 use Rattle.rast_narrow.specs.Grammar.{spelled_part, spelled_alternative, spelled_further, spelled_definition, spelled_step, spelled_declared, spelled_header, spelled_end, spelled}
-use Rattle.rast_narrow.specs.Reading.{Read, ◌>>=◌, starts, same_read, part_read, many_read, alternative_read, further_read, definition_read, declared_read, header_read, step_read, end_read, file_read}
+use Rattle.rast_narrow.specs.Reading.{Read, starts, same_read, part_read, many_read, alternative_read, further_read, definition_read, step_read, file_read}
 
 itself : (xs : List ℕ) → bytes_eq xs xs ≡ true
 itself xs = (bytes_eq-Decides xs xs).1 refl

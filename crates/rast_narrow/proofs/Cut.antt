@@ -1,5 +1,5 @@
 -- The tokens of a text are in it, and those that are names have the bytes of one.
-use Rattle.std.proofs.Common.{◌≡◌, ℕ, zero, suc, ◌+◌, ◌≤◌, true, not, List, [], ◌∷◌, ◌++◌, Some, None, IsTrue, All, refl, sym, ap, ◌∙◌, subst, append_assoc, length, length-append, take, drop, arith}
+use Rattle.std.proofs.Common.{◌≡◌, ℕ, zero, suc, ◌+◌, true, not, List, [], ◌∷◌, ◌++◌, Some, None, IsTrue, All, refl, sym, subst, append_assoc, length, length-append, arith}
 use Rattle.std.specs.declared.option.Option.{Option}
 use Rattle.std.proofs.Math.Seq.{take-append_seam, drop-append_seam}
 use Rattle.std.proofs.lemmas.List.Elements.{All-append}
@@ -9,7 +9,7 @@ use Rattle.rast_ast.specs.Kinds.{is_kind, text_of}
 use Rattle.rast_ast.specs.Names.{is_name}
 use Rattle.rast_lex.specs.declared.token.Token.{Token}
 use Rattle.rast_lex.specs.Seen.{slice_of}
-use Rattle.rast_lex.specs.Symbols.{symbols, symbol_at, stands}
+use Rattle.rast_lex.specs.Symbols.{symbols, stands}
 use Rattle.rast_lex.specs.Pieces.{Piece, Blank, Comment, Word, Number, Symbol, bytes_of, kind_of, IsPiece, ArePieces, texts}
 use Rattle.rast_lex.specs.Tokens.{AreTokens, tokens_of, token_at}
 use Rattle.rast_lex.proofs.FrontLaws.{find_in}

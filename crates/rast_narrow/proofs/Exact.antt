@@ -1,5 +1,5 @@
 -- A text has the form of one file, or of none.
-use Rattle.std.proofs.Common.{◌≡◌, ℕ, List, [], ◌∷◌, ◌++◌, Some, None, Result, Ok, Err, refl, sym, ap, ◌∙◌, subst, append-nil, length, ◌<◌, arith}
+use Rattle.std.proofs.Common.{◌≡◌, ℕ, List, [], ◌∷◌, ◌++◌, Some, None, Err, refl, sym, ap, ◌∙◌, subst, append-nil, length, ◌<◌, arith}
 use Rattle.rast_lex.specs.declared.token.Token.{Token}
 use Rattle.rast_lex.specs.declared.token.LexErr.{LexErr}
 use Rattle.rast_lex.specs.declared.token.LexErr.TheVariants as lex

@@ -1,6 +1,5 @@
 -- Parts that are read one after another, as a loop goes on.
-use Rattle.std.proofs.Common.{◌≡◌, ℕ, zero, suc, ◌+◌, ◌-◌, ◌<◌, ◌≤◌, Bool, true, false, List, [], ◌∷◌, ◌++◌, Some, None, Result, Ok, Err, refl, sym, ap, ◌∙◌, subst, append_assoc, append-nil, arith}
-use Rattle.std.specs.declared.option.Option.{Option}
+use Rattle.std.proofs.Common.{◌≡◌, ℕ, zero, suc, ◌+◌, ◌-◌, ◌<◌, ◌≤◌, true, false, List, [], ◌∷◌, ◌++◌, Some, None, Err, refl, sym, ap, ◌∙◌, append_assoc, append-nil, arith}
 use Rattle.rast_ast.specs.declared.kind.Kind.{Kind}
 use Rattle.rast_narrow.specs.declared.error.ParseErr.{ParseErr}
 use Rattle.rast_narrow.specs.declared.error.ParseErr.TheVariants.{NotYet, Memory}

@@ -1,6 +1,5 @@
 -- What is read is what was spelled.
 use Rattle.std.proofs.Common.{◌≡◌, ℕ, zero, suc, Bool, true, false, List, [], ◌∷◌, ◌++◌, Some, None, refl, sym, ap, ◌∙◌, subst, append_assoc, cond, codes, length}
-use Rattle.std.specs.declared.option.Option.{Option}
 use Rattle.std.specs.List.{flat_map}
 use Rattle.std.specs.Str.{bytes_eq}
 use Rattle.std.proofs.lemmas.Slice.Eq.{bytes_eq-Decides}
@@ -16,7 +15,7 @@ use Rattle.rast_narrow.specs.declared.tree.Part.{Part}
 use Rattle.rast_narrow.specs.declared.tree.Part.TheVariants.{One, Named}
 use Rattle.rast_narrow.specs.Words.{Word, Name, Number, Fixed}
 use Rattle.rast_narrow.specs.Grammar.{spelled_part, spelled_alternative, spelled_further, spelled_definition, spelled_step, spelled_declared, spelled_header, spelled_end, spelled}
-use Rattle.rast_narrow.specs.Reading.{Read, ◌>>=◌, is_of, starts, skip_read, name_in, name_read, same_in, same_read, one_in, one_read, part_read, many_read, alternative_read, further_read, definition_read, declared_read, header_read, step_read, end_read, file_read}
+use Rattle.rast_narrow.specs.Reading.{Read, ◌>>=◌, is_of, starts, skip_read, name_read, same_read, one_read, part_read, many_read, alternative_read, further_read, definition_read, declared_read, header_read, step_read, end_read, file_read}
 
 pub bytes_same : (xs ys : List ℕ) → bytes_eq xs ys ≡ true → xs ≡ ys
 bytes_same xs ys e = (bytes_eq-Decides xs ys).0 e

@@ -1,5 +1,5 @@
 -- How a file of the first form is read, token by token.
-use Rattle.std.specs.Prelude.{◌≡◌, ℕ, zero, suc, Bool, false, List, [], ◌∷◌, length, codes, Option, Some, None, Result, Ok, Err, cond}
+use Rattle.std.specs.Prelude.{ℕ, zero, suc, Bool, false, List, [], ◌∷◌, length, codes, Option, Some, None, cond}
 use Rattle.std.specs.Str.{bytes_eq}
 use Rattle.rast_ast.specs.declared.kind.Kind.{Kind}
 use Rattle.rast_ast.specs.declared.kind.Kind.TheVariants as kind
@@ -10,8 +10,6 @@ use Rattle.rast_narrow.specs.declared.tree.Alternative.{Alternative}
 use Rattle.rast_narrow.specs.declared.tree.Declared.{Declared}
 use Rattle.rast_narrow.specs.declared.tree.Part.{Part}
 use Rattle.rast_narrow.specs.declared.tree.Part.TheVariants.{One, Named}
-use Rattle.rast_narrow.specs.declared.error.ParseErr.{ParseErr}
-use Rattle.rast_narrow.specs.declared.error.ParseErr.TheVariants.{NotYet, Memory}
 use Rattle.rast_narrow.specs.Words.{Word, Name, Number, Fixed}
 
 -- what was read, and the tokens after it, or none where the tokens don't begin with it

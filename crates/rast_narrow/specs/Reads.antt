@@ -1,5 +1,5 @@
 -- What a reader's answer says of the tokens before and after it.
-use Rattle.std.specs.Prelude.{◌≡◌, ℕ, List, Some, None, Result, Ok, Err}
+use Rattle.std.specs.Prelude.{◌≡◌, List, Some, None, Result, Ok, Err}
 use Rattle.rast_narrow.specs.declared.error.ParseErr.{ParseErr}
 use Rattle.rast_narrow.specs.declared.error.ParseErr.TheVariants.{NotYet, Memory}
 use Rattle.rast_narrow.specs.Words.{Word}

@@ -1,6 +1,4 @@
-use Rattle.std.proofs.Common.{rules, arith, ◌≡◌, ◌<◌, List, [], length, Some, refl}
-use Rattle.rast_narrow.specs.Words.{Word, words}
-use Rattle.rast_narrow.specs.Reading.{file_read}
+use Rattle.std.proofs.Common.{rules, arith, ◌≡◌, ◌<◌, length, refl}
 use Rattle.rast_narrow.proofs.Cut.{tokens_are}
 use Rattle.rast_narrow.proofs.Exact.{read_form, read_only, read_fails, more_tokens, none_left}
 use Rattle.rast_narrow.proofs.whole.parse_tokens.Goals as goal

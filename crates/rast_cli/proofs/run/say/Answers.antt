@@ -1,0 +1,14 @@
+use Rattle.std.proofs.Common.{◌≡◌, refl, rules}
+use Rattle.rast_cli.proofs.AnswerLemmas.{refused_usage, refused_not_yet}
+use Rattle.rast_cli.proofs.run.say.Goals as goal
+
+pub returns-in_default : goal.returns-in_default
+returns-in_default g c = refused_usage _ _ _ _ _ _ _ (c.in_default.ensures.none refl) refl c.refuse.ensures.answer c.refuse.ensures.refusal
+
+pub returns-in-Err-NotYet : goal.returns-in-Err-NotYet
+returns-in-Err-NotYet g c =
+    let bytes = c.in-Ok.ensures.bytes in
+    let none = rw (c.in-Err-NotYet.field-0-is, c.deref.ensures.value) at c.in-Err-NotYet.ensures.exact in
+    let still : g.F.Files.faults c.read_all.new.files ≡ g.F.Files.faults c.args.files.now = search rules in
+    refused_not_yet _ _ _ _ _ _ c.refuse-in-Err-NotYet.result c.in-Ok.bytes.items c.in-Err-NotYet.at (record { name = c.in-Some.name.now; asks = c.in-Some.ensures.asks; has = bytes.0 }) bytes.1 none still
+    c.refuse-in-Err-NotYet.ensures.answer c.refuse-in-Err-NotYet.ensures.refusal
