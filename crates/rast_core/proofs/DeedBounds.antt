@@ -45,7 +45,7 @@ set_one : (Q : Entry → Type 0) (b : Bool) (k : ℕ) (l : Link) (e : Entry) (es
 set_one Q true k l e es fs n q a f = All-cons Q (k, l) es n a
 set_one Q false k l e es fs n q a f = All-cons Q e fs q f
 
-set_all : (Q : Entry → Type 0) (k : ℕ) (l : Link) (es : List Entry) → Q (k, l) → All Q es → All Q (set_key k l es)
+pub set_all : (Q : Entry → Type 0) (k : ℕ) (l : Link) (es : List Entry) → Q (k, l) → All Q es → All Q (set_key k l es)
 set_all Q k l [] n a = a
 set_all Q k l (e ∷ es) n a = set_one Q (e.0 == k) k l e es (set_key k l es) n (All-head Q e es a) (All-tail Q e es a) (set_all Q k l es n (All-tail Q e es a))
 

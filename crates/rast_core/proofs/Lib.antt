@@ -5,3 +5,6 @@ pub mod Puts
 pub mod MessageSteps
 pub mod DecideLemmas
 pub mod DeedBounds
+pub mod TakeBounds
+pub mod StepBounds
+pub mod ConfigLemmas

@@ -1,11 +1,12 @@
 -- What a step does to the list of items, by places.
 use Rattle.std.specs.Prelude.{◌≡◌, ℕ, ◌+◌, ◌<◌, Bool, List, [], ◌∷◌, ◌++◌, Option, Some, None, slice_get, take, drop, length, map, insert, remove, slice_set, option_to_list}
-use Rattle.rast_core.specs.Words.{Item, P, M, Pid, Link, Msg, Proc, Move}
-use Rattle.rast_items.specs.Step.{Cut, cut, put_beside, rest_items, moved, Next as Does, Ready as DReady, Waits as DWaits, Halted as DHalted, Ended as DEnded, Stuck as DStuck}
+use Rattle.rast_core.specs.Words.{Event, Item, P, M, Pid, Link, Msg, Proc, Move}
+use Rattle.rast_items.specs.Step.{Cut, cut, put_beside, rest_items, moved, step, Next as Does, Ready as DReady, Waits as DWaits, Halted as DHalted, Ended as DEnded, Stuck as DStuck}
 use Rattle.rast_items.specs.Run.{born}
 use Rattle.rast_items.specs.declared.action.Action.{Action}
 use Rattle.rast_items.specs.declared.action.Action.TheVariants.{Make}
-use Rattle.rast_core.specs.Shown.{origin}
+use Rattle.rast_items.specs.Deeds.{Code}
+use Rattle.rast_core.specs.Shown.{Shown, origin}
 use Rattle.rast_core.specs.declared.origin.Origin.{Origin}
 use Rattle.rast_core.specs.declared.decision.Edit.{Edit}
 use Rattle.rast_core.specs.declared.decision.Edit.TheVariants.{Replace, Two, Merge}
@@ -51,3 +52,10 @@ IsPutEdit m rest edit = (items : List Item) (i : ℕ) → i < length items → (
 abbrev pub HandsOn : Item → ℕ → ℕ → Link → Pid → Decision → Type 0
 HandsOn (P q) j i to pid d = d ≡ Stuck
 HandsOn (M m) j i to pid d = d ≡ Do (Move pid m.link to m.body m.moment) (Merge j (M (moved m to)) i) None
+
+-- the edit and the child are those of some step of a process of the configuration
+pub record IsStepEdit (v : Shown) (i : ℕ) (edit : Edit) (child : Option Origin) : Type 0 where
+  pub code : Code
+  pub pid : Pid
+  pub event : Event
+  pub decides : Decides (step code (length v.origins) pid v.items) v.items i (Do event edit child)

@@ -1,15 +1,14 @@
 // A configuration as a plain list.
-ghost use Rattle.std.specs.Prelude.{◌≡◌, ◌≤◌, ◌<◌, ◌+◌, ◌-◌, ◌++◌, IfOk, MatchOption, None, Some, slice_get, length, option_to_list};
+ghost use Rattle.std.specs.Prelude.{◌≡◌, ◌≤◌, ◌<◌, ◌+◌, ◌++◌, IfOk, MatchOption, None, Some, slice_get, length, option_to_list};
 ghost use Rattle.rast_items.specs.Step.{Ended, cut, is_proc};
 ghost use Rattle.rast_core.specs.Shown.{next_of};
-ghost use Rattle.rast_core.specs.Edits.{Decides, IsCutAt, IsApt, edited};
-ghost use Rattle.rast_core.specs.Bounds.{IsBounded};
+ghost use Rattle.rast_core.specs.Edits.{Decides, IsCutAt, IsStepEdit, edited};
 ghost use Rattle.rast_core.specs.Promises.{CanStart, IsStart, EnabledIs, StepIs, IsTold};
 
 use crate::answer::Next;
 use crate::decide::decide;
 use crate::decision::{Decision, Edit};
-use crate::edit::apply;
+use crate::edit::{apply, note};
 use crate::find::{find_process, is_process};
 use crate::main_process::begin;
 use crate::origin::Origin;
@@ -153,9 +152,8 @@ impl Config {
     /// Changes the list for the process at a place, and notes where a child comes from.
     fn perform(&mut self, place: usize, edit: Edit, child: Option<Origin>)
         requires place { place < length self.old.items }
-        requires apt { IsApt edit self.old.items }
         requires spare { 1 ≤ self.old.spare }
-        requires bounded { IsBounded (edited edit self.old.items place) (length (self.old.origins ++ option_to_list child)) (self.old.spare - 1) }
+        requires step { IsStepEdit self.old place edit child }
         ensures items { self.new.items ≡ edited edit self.old.items place }
         ensures origins { self.new.origins ≡ self.old.origins ++ option_to_list child }
         ensures plan { self.new.plan ≡ self.old.plan }
@@ -163,9 +161,7 @@ impl Config {
     {
         let last = place_after(place, &edit);
         apply(&mut self.items, place, edit);
-        if let Some(origin) = child {
-            self.origins.push(origin).unwrap();
-        }
+        note(&mut self.origins, child);
         self.spare -= 1;
         self.last = last;
     }
