@@ -1,0 +1,5 @@
+pub mod Texts
+pub mod Values
+pub mod Reports
+pub mod Waiting
+pub mod Turns

@@ -1,0 +1,196 @@
+// The printed value.
+ghost use Rattle.std.specs.Prelude.{◌≡◌, ◌<◌, ◌+◌, ◌-◌, ◌^◌, IfOk, length};
+ghost use Rattle.rast_items.specs.Links.{same_link};
+ghost use Rattle.rast_report.specs.Values.{process_text, value_text, is_client};
+ghost use Rattle.rast_report.specs.Turns.{Goes, TurnsAt, GoesBack, Advances};
+
+use crate::text::{put, put_body};
+use rast_core::{Config, Next};
+use rast_items::{Body, Item, Link, Msg, Pid, Proc, Side};
+use rast_terms::Program;
+use std::alloc::{AllocError, Global};
+
+/// A value that is printed behind the sent channel that is being printed: its link, and from which place on it stands.
+#[derive(Clone, Copy, Debug)]
+pub(crate) struct Waiting {
+    pub link: Link,
+    pub place: usize,
+}
+
+// Whether two links are the same.
+fn is_same(a: Link, b: Link) -> bool
+    ensures { result ≡ same_link a b }
+{
+    a.session.0 == b.session.0 && a.index == b.index
+}
+
+fn is_to_client(side: Side) -> bool
+    ensures { result ≡ is_client side }
+{
+    match side {
+        Side::Client => true,
+        Side::Provider => false,
+    }
+}
+
+// What a process shows that provides the link of the value.
+fn process_shows(program: &Program, config: &Config, proc: &Proc) -> &'static [u8]
+    ensures { result.now ≡ process_text program.now config.now proc.now }
+{
+    match config.enabled(program, proc.pid) {
+        Next::Waits(link) => {
+            if is_same(link, proc.own()) {
+                b"wait"
+            } else {
+                b"..."
+            }
+        }
+        _ => b"...",
+    }
+}
+
+// The link, behind a place.
+fn further(link: Link, place: usize) -> Waiting
+    requires { place < 2 ^ 64 - 1 }
+    ensures { result ≡ record { link = link; place = place + 1 } }
+{
+    Waiting {
+        link,
+        place: place + 1,
+    }
+}
+
+// One turn: what stands at a place, for the value at a link.
+#[derive(Clone, Copy, Debug)]
+pub(crate) enum Turn {
+    // The place isn't of the value.
+    On,
+    // The value ends here.
+    Ends,
+    // It goes on at this link.
+    Next(Link),
+    // A sent channel's value comes first, and then it goes on.
+    Sent(Link, Link),
+}
+
+// Puts the body of a message that provides the link of the value, and says how the value goes on.
+fn put_message(
+    alloc: Global,
+    text: &mut Vec<u8>,
+    program: &Program,
+    msg: &Msg,
+) -> Result<Turn, AllocError>
+    ensures { IfOk result (λ turn. Goes program.now msg.now text.old.items text.new.items turn) }
+{
+    match msg.body {
+        Body::End => {
+            put(text, b"end")?;
+            Ok(Turn::Ends)
+        }
+        Body::Chan(link) => {
+            put(text, b"(")?;
+            Ok(Turn::Sent(link, msg.next))
+        }
+        body => {
+            put_body(alloc, text, program, body, msg.potential)?;
+            put(text, b" . ")?;
+            Ok(Turn::Next(msg.next))
+        }
+    }
+}
+
+// What the item at a place adds to the value at a link.
+fn put_item(
+    alloc: Global,
+    text: &mut Vec<u8>,
+    program: &Program,
+    config: &Config,
+    place: usize,
+    link: Link,
+) -> Result<Turn, AllocError>
+    requires { place < length config.now.items }
+    ensures { IfOk result (λ turn. TurnsAt program.now config.now text.old.items text.new.items place link turn) }
+{
+    match &config.items()[place] {
+        Item::Proc(proc) => {
+            if !is_same(proc.own(), link) {
+                return Ok(Turn::On);
+            }
+            put(text, process_shows(program, config, proc))?;
+            Ok(Turn::Ends)
+        }
+        Item::Msg(msg) => {
+            if !is_same(msg.link, link) {
+                return Ok(Turn::On);
+            }
+            if !is_to_client(msg.toward) {
+                return Ok(Turn::On);
+            }
+            let next = put_message(alloc, text, program, msg)?;
+            Ok(next)
+        }
+    }
+}
+
+// The value that goes on next, of those that wait.
+fn next_waiting(
+    text: &mut Vec<u8>,
+    waiting: &mut Vec<Waiting>,
+) -> Result<Option<Waiting>, AllocError>
+    ensures { IfOk result (λ next. GoesBack text.old.items text.new.items waiting.old.items waiting.new.items next) }
+{
+    match waiting.pop() {
+        Some(next) => {
+            put(text, b") . ")?;
+            Ok(Some(next))
+        }
+        None => Ok(None),
+    }
+}
+
+// One turn of printing a value: the item at a place, and then the value that goes on next.
+fn advance(
+    alloc: Global,
+    text: &mut Vec<u8>,
+    program: &Program,
+    config: &Config,
+    waiting: &mut Vec<Waiting>,
+    at: Waiting,
+) -> Result<Option<Waiting>, AllocError>
+    ensures { IfOk result (λ next. Advances program.now config.now text.old.items text.new.items waiting.old.items waiting.new.items at next) }
+{
+    let Waiting { link, place } = at;
+    if place >= config.items().len() {
+        put(text, b"...")?;
+        let next = next_waiting(text, waiting)?;
+        return Ok(next);
+    }
+    match put_item(alloc, text, program, config, place, link)? {
+        Turn::On => Ok(Some(further(link, place))),
+        Turn::Ends => {
+            let next = next_waiting(text, waiting)?;
+            Ok(next)
+        }
+        Turn::Next(next) => Ok(Some(further(next, place))),
+        Turn::Sent(sent, next) => {
+            waiting.push(further(next, place))?;
+            Ok(Some(further(sent, place)))
+        }
+    }
+}
+
+/// What main's channel holds for a client: the value of a configuration.
+pub fn value(alloc: Global, program: &Program, config: &Config) -> Result<Vec<u8>, AllocError>
+    ensures { IfOk result (λ text. text.items ≡ value_text program.now config.now) }
+{
+    let mut text = Vec::new(alloc);
+    let mut waiting: Vec<Waiting> = Vec::new(alloc);
+    let mut at = Waiting {
+        link: Link::first(Pid(0)),
+        place: 0,
+    };
+    while let Some(next) = advance(alloc, &mut text, program, config, &mut waiting, at)? {
+        at = next;
+    }
+    Ok(text)
+}

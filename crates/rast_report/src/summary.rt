@@ -1,0 +1,102 @@
+// The report of a run.
+ghost use Rattle.std.specs.Prelude.{◌≡◌, ◌++◌, IfOk, OnOk, false, true};
+ghost use Rattle.rast_report.specs.Reports.{outcome_text, limit_text, count_line, counts_text, result_line, report};
+
+use crate::printing::value;
+use crate::sums::{held, time, work};
+use crate::text::{put, put_number, put_pid};
+use rast_core::{Config, Outcome};
+use rast_items::{Event, Pid};
+use rast_terms::Program;
+use std::alloc::{AllocError, Global};
+
+fn put_index_limit(
+    alloc: Global,
+    text: &mut Vec<u8>,
+    pid: Pid,
+    value: u128,
+) -> Result<(), AllocError>
+    ensures { OnOk result (text.new.items ≡ text.old.items ++ outcome_text (Outcome.IndexLimit pid value)) }
+{
+    put(text, b"index limit at ")?;
+    put_pid(alloc, text, pid)?;
+    put_limit(alloc, text, value)
+}
+
+fn put_limit(alloc: Global, text: &mut Vec<u8>, value: u128) -> Result<(), AllocError>
+    ensures { OnOk result (text.new.items ≡ text.old.items ++ limit_text value) }
+{
+    put(text, b" value ")?;
+    put_number(alloc, text, value)
+}
+
+fn put_outcome(alloc: Global, text: &mut Vec<u8>, outcome: Outcome) -> Result<(), AllocError>
+    ensures { OnOk result (text.new.items ≡ text.old.items ++ outcome_text outcome) }
+{
+    match outcome {
+        Outcome::Running => Ok(()),
+        Outcome::Finished => put(text, b"finished"),
+        Outcome::OutOfBudget => put(text, b"out of budget"),
+        Outcome::IndexLimit { pid, value } => put_index_limit(alloc, text, pid, value),
+        Outcome::Blocked => put(text, b"blocked"),
+    }
+}
+
+fn put_count(alloc: Global, text: &mut Vec<u8>, word: &[u8], number: u128) -> Result<(), AllocError>
+    ensures { OnOk result (text.new.items ≡ text.old.items ++ count_line word.now number) }
+{
+    put(text, word)?;
+    put(text, b" ")?;
+    put_number(alloc, text, number)?;
+    put(text, b"\n")
+}
+
+fn put_counts(
+    alloc: Global,
+    text: &mut Vec<u8>,
+    config: &Config,
+    history: &[Event],
+) -> Result<(), AllocError>
+    ensures { OnOk result (text.new.items ≡ text.old.items ++ counts_text history.now config.now) }
+{
+    let (Some(work), Some(held)) = (work(history), held(config.items())) else {
+        return Err(AllocError);
+    };
+    put_count(alloc, text, b"steps", history.len() as u128)?;
+    put_count(alloc, text, b"work", work)?;
+    put_count(alloc, text, b"held", held)?;
+    put_count(alloc, text, b"time", time(history))
+}
+
+fn put_result(
+    alloc: Global,
+    text: &mut Vec<u8>,
+    program: &Program,
+    config: &Config,
+) -> Result<(), AllocError>
+    ensures { OnOk result (text.new.items ≡ text.old.items ++ result_line program.now config.now) }
+{
+    put(text, b"result ")?;
+    let value = value(alloc, program, config)?;
+    put(text, value.as_slice())?;
+    put(text, b"\n")
+}
+
+/// The report of a run that came to this outcome: the outcome, the numbers of events, work, held potential and time,
+/// and the value of its configuration. Sums of 2^128 or more, which no run reaches, are answered as want of memory.
+pub fn report_text(
+    alloc: Global,
+    program: &Program,
+    outcome: Outcome,
+    config: &Config,
+    history: &[Event],
+) -> Result<Vec<u8>, AllocError>
+    ensures { IfOk result (λ text. text.items ≡ report program.now outcome history.now config.now false true) }
+{
+    let mut text = Vec::new(alloc);
+    put_outcome(alloc, &mut text, outcome)?;
+    put(&mut text, b"\n")?;
+    put_counts(alloc, &mut text, config, history)?;
+    put_result(alloc, &mut text, program, config)?;
+    Ok(text)
+}
