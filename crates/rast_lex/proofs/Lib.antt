@@ -1,0 +1,6 @@
+pub mod Runs
+pub mod FrontLaws
+pub mod Cuts
+pub mod Unique
+pub mod Answered
+pub mod SeenLaws
