@@ -1,0 +1,5 @@
+pub mod Causes
+pub mod Bytes
+pub mod Held
+pub mod SinkInMemory
+pub mod FilesInMemory
