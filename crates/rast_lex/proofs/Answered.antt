@@ -1,5 +1,5 @@
 -- An answer that is right is the only one.
-use Rattle.std.proofs.Common.{◌≡◌, ℕ, List, Result, Ok, Err, refl, sym, inl, inr}
+use Rattle.std.proofs.Common.{ℕ, List, Result, Ok, Err, refl, inl, inr}
 use Rattle.rast_lex.specs.declared.token.Token.{Token}
 use Rattle.rast_lex.specs.declared.token.LexErr.{LexErr}
 use Rattle.rast_lex.specs.declared.token.LexErr.TheVariants as error

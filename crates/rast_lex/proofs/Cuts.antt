@@ -1,14 +1,12 @@
 -- A text that is cut up to a place.
-use Rattle.std.proofs.Common.{◌≡◌, ℕ, suc, ◌+◌, ◌<◌, ◌≤◌, true, nat_lt, ltb-true, List, [], ◌∷◌, ◌++◌, length, drop, Option, ap, ap₂, subst, sym, ◌∙◌, refl, arith, append_assoc, append-nil, length-append}
+use Rattle.std.proofs.Common.{◌≡◌, ℕ, ◌+◌, ◌<◌, ◌≤◌, nat_lt, ltb-true, List, [], ◌∷◌, ◌++◌, length, drop, Option, ap, ap₂, subst, sym, ◌∙◌, refl, arith, append_assoc, append-nil, length-append}
 use Rattle.std.proofs.Math.Seq.{drop-append_seam}
 use Rattle.rast_ast.specs.declared.Kind.{Kind}
 use Rattle.rast_ast.specs.Kinds.{text_of}
-use Rattle.rast_ast.specs.Names.{is_name}
 use Rattle.rast_lex.specs.declared.token.Token.{Token}
-use Rattle.rast_lex.specs.Numbers.{is_number}
 use Rattle.rast_lex.specs.Symbols.{stands, symbols}
 use Rattle.rast_lex.specs.Pieces.{Piece, Blank, Comment, Word, Number, Symbol, bytes_of, kind_of, texts, IsPiece, ArePieces}
-use Rattle.rast_lex.specs.Tokens.{token_at, tokens_of, AreTokens, IsFault, IsFirstFault}
+use Rattle.rast_lex.specs.Tokens.{token_at, tokens_of, AreTokens}
 use Rattle.rast_lex.specs.Fronts.{HasPiece}
 use Rattle.rast_lex.proofs.FrontLaws.{find_in}
 

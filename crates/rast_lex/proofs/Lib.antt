@@ -3,3 +3,4 @@ pub mod FrontLaws
 pub mod Cuts
 pub mod Unique
 pub mod Answered
+pub mod SeenLaws

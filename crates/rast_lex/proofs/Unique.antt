@@ -1,5 +1,5 @@
 -- A text is cut in one way, or has one first fault.
-use Rattle.std.proofs.Common.{◌≡◌, ℕ, zero, suc, ◌+◌, ◌<◌, ◌≤◌, Bool, true, false, not, ◌&&◌, ◌||◌, ◌^◌, ◌==◌, nat_le, nat_lt, cond, is_some, List, [], ◌∷◌, ◌++◌, length, take, drop, Option, Some, None, ap, ap₂, sym, ◌∙◌, refl, subst, arith, append_assoc, append-nil, ⊎_elim}
+use Rattle.std.proofs.Common.{◌≡◌, ℕ, ◌+◌, ◌<◌, ◌≤◌, Bool, true, false, not, ◌&&◌, ◌||◌, ◌^◌, ◌==◌, nat_le, nat_lt, cond, is_some, List, [], ◌∷◌, ◌++◌, length, take, drop, Option, Some, None, ap, ap₂, sym, ◌∙◌, refl, subst, arith, append_assoc, append-nil, ⊎_elim}
 use Rattle.std.specs.List.{list_all, prefix_len}
 use Rattle.std.proofs.Math.Seq.{drop-append_seam, take-append_seam}
 use Rattle.rast_ast.specs.declared.Kind.{Kind}
@@ -13,7 +13,7 @@ use Rattle.rast_lex.specs.Numbers.{is_number, has_no_leading_zero, value_of}
 use Rattle.std.proofs.lemmas.Bool.Decides.{nat_tests}
 use Rattle.rast_lex.specs.Symbols.{stands, symbols, symbol_at}
 use Rattle.rast_lex.specs.Pieces.{Piece, Blank, Comment, Word, Number, Symbol, bytes_of, texts, IsPiece, ArePieces}
-use Rattle.rast_lex.specs.Tokens.{BeginsNone, HasBadComment, HasBadNumber, HasLongName, IsFault, AreTokens, IsFirstFault, tokens_of}
+use Rattle.rast_lex.specs.Tokens.{BeginsNone, HasBadComment, IsFault, AreTokens, IsFirstFault, tokens_of}
 use Rattle.rast_lex.proofs.Runs.{and_left, and_right, run_is}
 use Rattle.rast_lex.proofs.FrontLaws.{find_in}
 use Rattle.rast_lex.proofs.Cuts.{piece_some}
@@ -104,21 +104,21 @@ name_all (c ∷ cs) e = ap₂ (λ a b. (a || is_digit c || (c == 95)) && b) (and
 name_read : (w a : List ℕ) → is_name w ≡ true → starts is_word_byte a ≡ false → first (w ++ a) ≡ cond (nat_le (length w) 64) (Some (Word w, a)) None
 name_read [] a e h = absurd (cc)
 name_read (c ∷ cs) a e h = class_letter c (cs ++ a) (is_letter c) (is_digit c) (is_blank c) (c == 37) (name_first (c ∷ cs) e)
-  ∙ ap (word_first ((c ∷ cs) ++ a)) (run_is is_word_byte (c ∷ cs) a (name_all (c ∷ cs) e) h)
-  ∙ ap₂ (λ x y. cond (nat_le (length (c ∷ cs)) 64) (Some (Word x, y)) None) (take-append_seam (c ∷ cs) a) (drop-append_seam (c ∷ cs) a)
+    ∙ ap (word_first ((c ∷ cs) ++ a)) (run_is is_word_byte (c ∷ cs) a (name_all (c ∷ cs) e) h)
+    ∙ ap₂ (λ x y. cond (nat_le (length (c ∷ cs)) 64) (Some (Word x, y)) None) (take-append_seam (c ∷ cs) a) (drop-append_seam (c ∷ cs) a)
 
 -- a text that begins with digits is read by what they are
 digits_read : (w a : List ℕ) → 0 < length w → list_all is_digit w ≡ true → starts is_digit a ≡ false → first (w ++ a) ≡ cond (is_number w) (Some (Number w, a)) None
 digits_read [] a some all h = absurd (omega (arith, some))
 digits_read (c ∷ cs) a some all h = let digit = and_left (is_digit c) (list_all is_digit cs) all in
-  class_digit c (cs ++ a) (is_letter c) (is_digit c) (is_blank c) (c == 37) (digit_not_letter c digit) digit
-  ∙ ap (number_first ((c ∷ cs) ++ a)) (run_is is_digit (c ∷ cs) a all h)
-  ∙ ap₂ (λ x y. cond (is_number x) (Some (Number x, y)) None) (take-append_seam (c ∷ cs) a) (drop-append_seam (c ∷ cs) a)
+    class_digit c (cs ++ a) (is_letter c) (is_digit c) (is_blank c) (c == 37) (digit_not_letter c digit) digit
+    ∙ ap (number_first ((c ∷ cs) ++ a)) (run_is is_digit (c ∷ cs) a all h)
+    ∙ ap₂ (λ x y. cond (is_number x) (Some (Number x, y)) None) (take-append_seam (c ∷ cs) a) (drop-append_seam (c ∷ cs) a)
 
 -- a text that begins with `%` is read by what follows the bytes of a comment
 comment_read : (w a : List ℕ) → list_all is_comment_byte w ≡ true → starts is_comment_byte a ≡ false → first (37 ∷ (w ++ a)) ≡ cond (starts (λ c. not (c == 10)) a) None (Some (Comment w, a))
 comment_read w a all h = ap (comment_first (w ++ a)) (run_is is_comment_byte w a all h)
-  ∙ ap₂ (λ x y. cond (starts (λ c. not (c == 10)) y) None (Some (Comment x, y))) (take-append_seam w a) (drop-append_seam w a)
+    ∙ ap₂ (λ x y. cond (starts (λ c. not (c == 10)) y) None (Some (Comment x, y))) (take-append_seam w a) (drop-append_seam w a)
 
 and_no : (a b : Bool) → b ≡ false → (a && b) ≡ false
 and_no true b e = e
@@ -159,7 +159,7 @@ long_no n h = grind (arith, nat_tests)
 none_begins : (text : List ℕ) → BeginsNone text → first text ≡ None
 none_begins [] h = refl
 none_begins (c ∷ cs) h = let e = or_false (is_letter c || is_digit c || is_blank c || (c == 37)) (is_some (symbol_at (c ∷ cs))) h.none in
-  class_other c cs (is_letter c) (is_digit c) (is_blank c) (c == 37) (none_of (is_letter c) (is_digit c) (is_blank c) (c == 37) (ap not e.0)) ∙ ap (symbol_first (c ∷ cs)) (is_none' (symbol_at (c ∷ cs)) e.1)
+    class_other c cs (is_letter c) (is_digit c) (is_blank c) (c == 37) (none_of (is_letter c) (is_digit c) (is_blank c) (c == 37) (ap not e.0)) ∙ ap (symbol_first (c ∷ cs)) (is_none' (symbol_at (c ∷ cs)) e.1)
 
 comment_none : (text : List ℕ) (n : ℕ) → HasBadComment text n → first text ≡ None
 comment_none text n h = ap first h.text_is ∙ comment_read h.bytes (h.bad ∷ h.more) h.good (bad_ends h.bad h.above) ∙ ap (λ b. cond b None (Some (Comment h.bytes, h.bad ∷ h.more))) (bad_no_line h.bad h.above)
@@ -185,8 +185,8 @@ fault_at place (c ∷ cs) = fault_by (is_letter c) (is_digit c) (c == 37) place 
 none_fault : (place : ℕ) (text : List ℕ) → BeginsNone text → fault_at place text ≡ error.BadByte place
 none_fault place [] h = absurd (omega (arith, h.some))
 none_fault place (c ∷ cs) h = let e = or_false (is_letter c || is_digit c || is_blank c || (c == 37)) (is_some (symbol_at (c ∷ cs))) h.none in
-  let f = none_of (is_letter c) (is_digit c) (is_blank c) (c == 37) (ap not e.0) in
-  ap₂ (λ a b. fault_by a b (c == 37) place cs) f.0 f.1 ∙ ap (λ d. fault_by false false d place cs) f.3
+    let f = none_of (is_letter c) (is_digit c) (is_blank c) (c == 37) (ap not e.0) in
+    ap₂ (λ a b. fault_by a b (c == 37) place cs) f.0 f.1 ∙ ap (λ d. fault_by false false d place cs) f.3
 
 comment_fault : (place n : ℕ) (text : List ℕ) → HasBadComment text n → fault_at place text ≡ error.BadByte (place + n)
 comment_fault place n text h = ap (fault_at place) h.text_is ∙ ap (λ m. error.BadByte (place + m)) (ap (λ m. m + 1) (run_is is_comment_byte h.bytes (h.bad ∷ h.more) h.good (bad_ends h.bad h.above)) ∙ sym h.place)
@@ -194,7 +194,7 @@ comment_fault place n text h = ap (fault_at place) h.text_is ∙ ap (λ m. error
 digits_fault : (place : ℕ) (w a : List ℕ) → 0 < length w → list_all is_digit w ≡ true → fault_at place (w ++ a) ≡ error.BadNumber place
 digits_fault place [] a some all = absurd (omega (arith, some))
 digits_fault place (c ∷ cs) a some all = let digit = and_left (is_digit c) (list_all is_digit cs) all in
-  ap₂ (λ x y. fault_by x y (c == 37) place (cs ++ a)) (digit_not_letter c digit) digit
+    ap₂ (λ x y. fault_by x y (c == 37) place (cs ++ a)) (digit_not_letter c digit) digit
 
 name_fault : (place : ℕ) (w a : List ℕ) → is_name w ≡ true → fault_at place (w ++ a) ≡ error.LongName place
 name_fault place [] a e = absurd (cc)
@@ -226,9 +226,9 @@ cut_as [] [] a b h k na nb e = (refl, e)
 cut_as [] (q ∷ qs) a b h k na nb e = absurd (piece_at q (texts qs ++ b) a k.0 na (sym (append_assoc (bytes_of q) (texts qs) b) ∙ sym e))
 cut_as (p ∷ ps) [] a b h k na nb e = absurd (piece_at p (texts ps ++ a) b h.0 nb (sym (append_assoc (bytes_of p) (texts ps) a) ∙ e))
 cut_as (p ∷ ps) (q ∷ qs) a b h k na nb e =
-  let same : (p ≡ q) × (texts ps ++ a ≡ texts qs ++ b) = one_piece p q (texts ps ++ a) (texts qs ++ b) h.0 k.0 (sym (append_assoc (bytes_of p) (texts ps) a) ∙ e ∙ append_assoc (bytes_of q) (texts qs) b) in
-  let rest : (ps ≡ qs) × (a ≡ b) = cut_as ps qs a b h.1 k.1 na nb same.1 in
-  (ap₂ (λ x xs. x ∷ xs) same.0 rest.0, rest.1)
+    let same : (p ≡ q) × (texts ps ++ a ≡ texts qs ++ b) = one_piece p q (texts ps ++ a) (texts qs ++ b) h.0 k.0 (sym (append_assoc (bytes_of p) (texts ps) a) ∙ e ∙ append_assoc (bytes_of q) (texts qs) b) in
+    let rest : (ps ≡ qs) × (a ≡ b) = cut_as ps qs a b h.1 k.1 na nb same.1 in
+    (ap₂ (λ x xs. x ∷ xs) same.0 rest.0, rest.1)
 
 -- no fault stands at the end
 no_end : (e : LexErr) (place : ℕ) → IsFault e place [] → ⊥
@@ -243,18 +243,18 @@ no_end e place h = none_is e (fault_is e place [] h) h
 -- the tokens of a text are one list
 pub one_list : (text : List ℕ) (ts us : List Token) → AreTokens text ts → AreTokens text us → ts ≡ us
 one_list text ts us h k =
-  let same : (h.pieces ≡ k.pieces) × ([] ≡ []) = cut_as h.pieces k.pieces [] [] h.are k.are refl refl (append-nil (texts h.pieces) ∙ sym h.cut ∙ k.cut ∙ sym (append-nil (texts k.pieces))) in
-  h.tokens_are ∙ ap (tokens_of 0) same.0 ∙ sym k.tokens_are
+    let same : (h.pieces ≡ k.pieces) × ([] ≡ []) = cut_as h.pieces k.pieces [] [] h.are k.are refl refl (append-nil (texts h.pieces) ∙ sym h.cut ∙ k.cut ∙ sym (append-nil (texts k.pieces))) in
+    h.tokens_are ∙ ap (tokens_of 0) same.0 ∙ sym k.tokens_are
 
 -- a text with a first fault has no tokens
 pub no_list : (text : List ℕ) (ts : List Token) (e : LexErr) → AreTokens text ts → IsFirstFault text e → ⊥
 no_list text ts e h k =
-  let none = fault_none e (length (texts k.pieces)) k.rest k.fault in
-  let same : (h.pieces ≡ k.pieces) × ([] ≡ k.rest) = cut_as h.pieces k.pieces [] k.rest h.are k.are refl none (append-nil (texts h.pieces) ∙ sym h.cut ∙ k.cut) in
-  no_end e (length (texts k.pieces)) (subst (IsFault e (length (texts k.pieces))) (sym same.1) k.fault)
+    let none = fault_none e (length (texts k.pieces)) k.rest k.fault in
+    let same : (h.pieces ≡ k.pieces) × ([] ≡ k.rest) = cut_as h.pieces k.pieces [] k.rest h.are k.are refl none (append-nil (texts h.pieces) ∙ sym h.cut ∙ k.cut) in
+    no_end e (length (texts k.pieces)) (subst (IsFault e (length (texts k.pieces))) (sym same.1) k.fault)
 
 -- and one first fault
 pub one_fault : (text : List ℕ) (e f : LexErr) → IsFirstFault text e → IsFirstFault text f → e ≡ f
 one_fault text e f h k =
-  let same : (h.pieces ≡ k.pieces) × (h.rest ≡ k.rest) = cut_as h.pieces k.pieces h.rest k.rest h.are k.are (fault_none e (length (texts h.pieces)) h.rest h.fault) (fault_none f (length (texts k.pieces)) k.rest k.fault) (sym h.cut ∙ k.cut) in
-  sym (fault_is e (length (texts h.pieces)) h.rest h.fault) ∙ ap₂ (λ ps r. fault_at (length (texts ps)) r) same.0 same.1 ∙ fault_is f (length (texts k.pieces)) k.rest k.fault
+    let same : (h.pieces ≡ k.pieces) × (h.rest ≡ k.rest) = cut_as h.pieces k.pieces h.rest k.rest h.are k.are (fault_none e (length (texts h.pieces)) h.rest h.fault) (fault_none f (length (texts k.pieces)) k.rest k.fault) (sym h.cut ∙ k.cut) in
+    sym (fault_is e (length (texts h.pieces)) h.rest h.fault) ∙ ap₂ (λ ps r. fault_at (length (texts ps)) r) same.0 same.1 ∙ fault_is f (length (texts k.pieces)) k.rest k.fault

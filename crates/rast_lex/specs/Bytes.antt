@@ -1,5 +1,5 @@
 -- Which bytes are blanks, and which may stand in a comment.
-use Rattle.std.specs.Prelude.{ℕ, Bool, true, false, ◌&&◌, ◌||◌, nat_lt, ◌==◌, not, List, [], ◌∷◌}
+use Rattle.std.specs.Prelude.{ℕ, Bool, false, ◌&&◌, ◌||◌, nat_lt, ◌==◌, not, List, [], ◌∷◌}
 
 -- space, tab, carriage return and line feed
 abbrev pub is_blank : ℕ → Bool

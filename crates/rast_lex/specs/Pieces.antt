@@ -1,5 +1,5 @@
 -- A text is pieces one after another: blanks, comments, words, numbers and symbols, each as long as it can be.
-use Rattle.std.specs.Prelude.{◌≡◌, ℕ, ◌+◌, ◌≤◌, Bool, true, false, not, ◌==◌, List, [], ◌∷◌, ◌++◌, length, Option, Some, None}
+use Rattle.std.specs.Prelude.{◌≡◌, ℕ, ◌≤◌, true, false, not, ◌==◌, List, [], ◌∷◌, ◌++◌, length, Option, Some, None}
 use Rattle.std.specs.List.{list_all}
 use Rattle.rast_ast.specs.declared.Kind.{Kind}
 use Rattle.rast_ast.specs.declared.Kind.TheVariants as kind

@@ -9,11 +9,11 @@ use Rattle.rast_lex.specs.Bytes.{starts}
 -- each symbol behind those that it begins
 abbrev pub symbols : List Kind
 symbols =
-  kind.Forward ∷ kind.LeftArrow ∷ kind.AtMost ∷ kind.NotEqual ∷ kind.Less ∷ kind.RightArrow ∷ kind.Equal ∷
-  kind.AtLeast ∷ kind.Greater ∷ kind.And ∷ kind.Or ∷ kind.Lolli ∷ kind.Minus ∷ kind.Plus ∷ kind.Ampersand ∷
-  kind.Star ∷ kind.Question ∷ kind.Exclamation ∷ kind.Dot ∷ kind.Comma ∷ kind.Colon ∷ kind.Semicolon ∷ kind.Bar ∷
-  kind.Tilde ∷ kind.OpenBrace ∷ kind.CloseBrace ∷ kind.OpenParen ∷ kind.CloseParen ∷ kind.OpenBracket ∷
-  kind.CloseBracket ∷ []
+    kind.Forward ∷ kind.LeftArrow ∷ kind.AtMost ∷ kind.NotEqual ∷ kind.Less ∷ kind.RightArrow ∷ kind.Equal ∷
+    kind.AtLeast ∷ kind.Greater ∷ kind.And ∷ kind.Or ∷ kind.Lolli ∷ kind.Minus ∷ kind.Plus ∷ kind.Ampersand ∷
+    kind.Star ∷ kind.Question ∷ kind.Exclamation ∷ kind.Dot ∷ kind.Comma ∷ kind.Colon ∷ kind.Semicolon ∷ kind.Bar ∷
+    kind.Tilde ∷ kind.OpenBrace ∷ kind.CloseBrace ∷ kind.OpenParen ∷ kind.CloseParen ∷ kind.OpenBracket ∷
+    kind.CloseBracket ∷ []
 
 abbrev pub begins_with : List ℕ → List ℕ → Bool
 begins_with [] text = true

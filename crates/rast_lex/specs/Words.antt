@@ -7,9 +7,9 @@ use Rattle.rast_ast.specs.Kinds.{text_of}
 
 abbrev pub keywords : List Kind
 keywords =
-  kind.All ∷ kind.Assert ∷ kind.Assume ∷ kind.By ∷ kind.Case ∷ kind.Close ∷ kind.Decl ∷ kind.Delay ∷ kind.Eq ∷
-  kind.Ex ∷ kind.Exec ∷ kind.Explicit ∷ kind.False ∷ kind.Get ∷ kind.If ∷ kind.Impossible ∷ kind.Now ∷ kind.Pay ∷
-  kind.Proc ∷ kind.Recv ∷ kind.Refl ∷ kind.Send ∷ kind.True ∷ kind.Type ∷ kind.Wait ∷ kind.When ∷ kind.Work ∷ []
+    kind.All ∷ kind.Assert ∷ kind.Assume ∷ kind.By ∷ kind.Case ∷ kind.Close ∷ kind.Decl ∷ kind.Delay ∷ kind.Eq ∷
+    kind.Ex ∷ kind.Exec ∷ kind.Explicit ∷ kind.False ∷ kind.Get ∷ kind.If ∷ kind.Impossible ∷ kind.Now ∷ kind.Pay ∷
+    kind.Proc ∷ kind.Recv ∷ kind.Refl ∷ kind.Send ∷ kind.True ∷ kind.Type ∷ kind.Wait ∷ kind.When ∷ kind.Work ∷ []
 
 -- the kind of a word: the keyword with this text, or else a name
 abbrev pub kind_of_word : List ℕ → Kind

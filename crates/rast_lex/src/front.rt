@@ -4,12 +4,13 @@ ghost use Rattle.rast_ast.specs.Names.{is_letter, is_digit};
 ghost use Rattle.rast_lex.specs.Bytes.{starts};
 ghost use Rattle.rast_lex.specs.Fronts.{HasFront};
 
-use rast_ast::Kind;
-
-use crate::byte::{comment_run, digit_run, front, is_blank_byte, is_digit_byte, is_letter_byte, skip, word_run};
+use crate::byte::{
+    comment_run, digit_run, front, is_blank_byte, is_digit_byte, is_letter_byte, skip, word_run,
+};
 use crate::number::is_number;
 use crate::symbol::symbol_at;
 use crate::word::kind_of_word;
+use rast_ast::Kind;
 
 /// What a text begins with: nothing, a piece with its kind if it is a token and its length, or a fault.
 pub enum Front {
@@ -60,7 +61,11 @@ fn number(text: &[u8]) -> Front
     ensures { HasFront text.now result }
 {
     let len = digit_run(text);
-    if is_number(front(text, len)) { Front::Piece(Some(Kind::Number), len) } else { Front::BadNumber }
+    if is_number(front(text, len)) {
+        Front::Piece(Some(Kind::Number), len)
+    } else {
+        Front::BadNumber
+    }
 }
 
 // A comment, by what follows its `%`.

@@ -10,4 +10,4 @@ mod word;
 
 pub use number::value_of;
 pub use rast_ast::Kind;
-pub use token::{LexErr, Token, tokens};
+pub use token::{LexErr, Token, pieces_law, tokens};

@@ -2,9 +2,8 @@
 ghost use Rattle.std.specs.Prelude.{◌≡◌, ◌∷◌, Some};
 ghost use Rattle.rast_lex.specs.Symbols.{symbol_at};
 
-use rast_ast::Kind;
-
 use crate::byte::word_run;
+use rast_ast::Kind;
 
 /// The longest symbol that the text begins with.
 pub fn symbol_at(text: &[u8]) -> Option<Kind>
@@ -76,7 +75,11 @@ fn after_minus(rest: &[u8]) -> Kind
 {
     match rest {
         [b'o', more @ ..] => {
-            if word_run(more) == 0 { Kind::Lolli } else { Kind::Minus }
+            if word_run(more) == 0 {
+                Kind::Lolli
+            } else {
+                Kind::Minus
+            }
         }
         _ => Kind::Minus,
     }

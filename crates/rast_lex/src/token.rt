@@ -1,17 +1,17 @@
 // The tokens of a text.
-ghost use Rattle.std.specs.Prelude.{◌≡◌, ◌≤◌, ◌^◌, ◌++◌, List, length, OnOk, IfErr};
+ghost use Rattle.std.specs.Prelude.{◌≡◌, ◌≤◌, ◌^◌, ◌++◌, List, [], length, OnOk, IfErr};
 ghost use Rattle.rast_lex.specs.declared.token.Token.{Token};
 ghost use Rattle.rast_lex.specs.declared.token.LexErr.{LexErr};
 ghost use Rattle.rast_lex.specs.declared.token.Token.{Token};
 ghost use Rattle.rast_lex.specs.declared.token.LexErr.{LexErr};
+ghost use Rattle.rast_lex.specs.Pieces.{Piece, ArePieces, texts};
+ghost use Rattle.rast_lex.specs.Seen.{words, piece_words};
 ghost use Rattle.rast_lex.specs.Tokens.{AreTokens, GivesFault, GivesTokens, IsFirstFault, Lexes, token_at};
-
-use std::alloc::{AllocFailed, Global};
-
-use rast_ast::Kind;
 
 use crate::byte::skip;
 use crate::front::{Front, front_of};
+use rast_ast::Kind;
+use std::alloc::{AllocFailed, Global};
 
 /// A token: its kind, the place of its first byte, and how many bytes it has.
 #[derive(Clone, Copy, Debug, PartialEq, Eq)]
@@ -25,17 +25,11 @@ pub struct Token {
 #[derive(Clone, Copy, Debug, PartialEq, Eq)]
 pub enum LexErr {
     /// A byte that begins no token, or a byte above 127 in a comment.
-    BadByte {
-        at: u32,
-    },
+    BadByte { at: u32 },
     /// Digits with a leading zero, or of a value of 2^32 or more.
-    BadNumber {
-        at: u32,
-    },
+    BadNumber { at: u32 },
     /// A name of more than 64 bytes.
-    LongName {
-        at: u32,
-    },
+    LongName { at: u32 },
     /// Want of memory.
     Memory,
 }
@@ -43,6 +37,7 @@ pub enum LexErr {
 impl<T: Drop> From<AllocFailed<T>> for LexErr {
     ghost use Rattle.std.specs.Prelude.{◌≡◌};
     ghost use Rattle.rast_lex.specs.declared.token.LexErr.TheVariants.{Memory};
+
     ghost from_gives = { λ _ e. e ≡ Memory };
 
     fn from(_: AllocFailed<T>) -> LexErr {
@@ -76,7 +71,9 @@ fn cut(alloc: Global, text: &[u8]) -> Result<Vec<Token>, LexErr>
                 rest = skip(rest, len);
             }
             Front::BadByte => return Err(LexErr::BadByte { at: at as u32 }),
-            Front::BadComment(n) => return Err(LexErr::BadByte { at: (at + n) as u32 }),
+            Front::BadComment(n) => return Err(LexErr::BadByte {
+                at: (at + n) as u32,
+            }),
             Front::BadNumber => return Err(LexErr::BadNumber { at: at as u32 }),
             Front::LongName => return Err(LexErr::LongName { at: at as u32 }),
         }
@@ -92,4 +89,86 @@ fn push_token(out: &mut Vec<Token>, kind: Option<Kind>, at: u32, len: u32) -> Re
         out.push(Token { kind, at, len })?;
     }
     Ok(())
+}
+
+/// Pieces are a text whose tokens are, as the grammar sees them, those of the pieces.
+pub fn pieces_law()
+    ensures { (ps : List Piece) → ArePieces ps [] → (ts : List Token) × AreTokens (texts ps) ts × (words (texts ps) ts ≡ piece_words ps) }
+{}
+
+#[cfg(test)]
+mod tests {
+    use super::*;
+    use rast_ast::Kind;
+    use std::test::Fail;
+
+    fn token(kind: Kind, at: u32, len: u32) -> Token {
+        Token { kind, at, len }
+    }
+
+    #[test]
+    fn cuts_at_the_longest(rt: HostRuntime) -> Result<(), Fail> {
+        let found = tokens(rt.alloc(), b"x<-1%\n-ob a-o b12/\\")?;
+        let wanted = [
+            token(Kind::Name, 0, 1),
+            token(Kind::LeftArrow, 1, 2),
+            token(Kind::Number, 3, 1),
+            token(Kind::Minus, 6, 1),
+            token(Kind::Name, 7, 2),
+            token(Kind::Name, 10, 1),
+            token(Kind::Lolli, 11, 2),
+            token(Kind::Name, 14, 3),
+            token(Kind::And, 17, 2),
+        ];
+        assert_eq!(rt; found.as_slice(), wanted.as_slice());
+        Ok(())
+    }
+
+    #[test]
+    fn reads_keywords(rt: HostRuntime) -> Result<(), Fail> {
+        let found = tokens(
+            rt.alloc(),
+            b"explicit impossible work workx 12ab 4294967295",
+        )?;
+        let wanted = [
+            token(Kind::Explicit, 0, 8),
+            token(Kind::Impossible, 9, 10),
+            token(Kind::Work, 20, 4),
+            token(Kind::Name, 25, 5),
+            token(Kind::Number, 31, 2),
+            token(Kind::Name, 33, 2),
+            token(Kind::Number, 36, 10),
+        ];
+        assert_eq!(rt; found.as_slice(), wanted.as_slice());
+        Ok(())
+    }
+
+    #[test]
+    fn names_the_first_fault(rt: HostRuntime) {
+        let long = [b'a'; 65];
+        assert_eq!(rt;
+            tokens(rt.alloc(), b"#").err(),
+            Some(LexErr::BadByte { at: 0 })
+        );
+        assert_eq!(rt;
+            tokens(rt.alloc(), b"a / 01").err(),
+            Some(LexErr::BadByte { at: 2 })
+        );
+        assert_eq!(rt;
+            tokens(rt.alloc(), b"x %ab\xff").err(),
+            Some(LexErr::BadByte { at: 5 })
+        );
+        assert_eq!(rt;
+            tokens(rt.alloc(), b"x 01 #").err(),
+            Some(LexErr::BadNumber { at: 2 })
+        );
+        assert_eq!(rt;
+            tokens(rt.alloc(), b"4294967296").err(),
+            Some(LexErr::BadNumber { at: 0 })
+        );
+        assert_eq!(rt;
+            tokens(rt.alloc(), &long).err(),
+            Some(LexErr::LongName { at: 0 })
+        );
+    }
 }

@@ -1,5 +1,4 @@
-use Rattle.std.proofs.Common.{◌≡◌, ap, sym, ◌∙◌, true, false, not}
-use Rattle.rast_lex.specs.Bytes.{starts}
+use Rattle.std.proofs.Common.{ap, ◌∙◌, not}
 use Rattle.rast_lex.proofs.FrontLaws.{comment, bad_comment}
 use Rattle.rast_lex.proofs.front.comment.Goals as goal
 

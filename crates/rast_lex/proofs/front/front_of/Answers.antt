@@ -1,5 +1,4 @@
 use Rattle.std.proofs.Common.{sym, ◌∙◌, ap, length}
-use Rattle.rast_lex.specs.Symbols.{symbol_at}
 use Rattle.rast_lex.proofs.FrontLaws.{blank, symbol}
 use Rattle.rast_lex.proofs.front.front_of.Goals as goal
 

@@ -1,4 +1,4 @@
-use Rattle.std.proofs.Common.{sym, ◌∙◌, ap}
+use Rattle.std.proofs.Common.{◌∙◌, ap}
 use Rattle.rast_lex.specs.Words.{kind_of_word}
 use Rattle.rast_lex.proofs.FrontLaws.{word, long_name}
 use Rattle.rast_lex.proofs.front.word.Goals as goal

@@ -1,6 +1,0 @@
-use Rattle.std.proofs.Common.{sym, ◌∙◌}
-use Rattle.rast_parse.proofs.Words.{starts_first}
-use Rattle.rast_parse.proofs.cursor.Cursor.at.Goals as goal
-
-pub returns-in-Some : goal.returns-in-Some
-returns-in-Some c = c.eq.ensures ∙ starts_first _ _ _ _ _ (c.in-Some.ensures.cases.0)
