@@ -12,7 +12,10 @@ use rast_core::Outcome;
 use rast_io::{Files, LIMIT, ReadErr, read_all};
 use rast_items::Event;
 use rast_narrow::{ParseErr, parse};
+use rast_report::report_text;
+use rast_rules::Plan;
 use rast_terms::Program;
+use sqlite_items::Items;
 use std::alloc::{AllocError, Global};
 
 /// The most events of a run.
@@ -57,12 +60,23 @@ fn refuse(alloc: Global, answer: Answer) -> Result<Said, AllocError>
     })
 }
 
-// Runs a program and reports it.
+// Runs a program and reports it. No form that is built has a forward or a payment, so any plan serves.
 fn report(alloc: Global, program: &Program) -> Result<Made, AllocError>
     requires { CanStart program.now }
     ensures { IfOk result (λ r. IsReport BUDGET program.now r.outcome r.text.items r.history.items) }
 {
-    Err(AllocError)
+    let plan = Plan {
+        positive: Items::new(alloc),
+        paid: Items::new(alloc),
+    };
+    let (config, history) = rast_core::run(alloc, program, plan, BUDGET)?;
+    let outcome = config.outcome(program, history.len() as u32, BUDGET);
+    let text = report_text(alloc, program, outcome, &config, &history)?;
+    Ok(Made {
+        outcome,
+        text,
+        history,
+    })
 }
 
 // What words and files call for.
