@@ -2,3 +2,4 @@ pub mod Added
 pub mod WordLemmas
 pub mod AnswerLemmas
 pub mod WriteLemmas
+pub mod StartLemmas

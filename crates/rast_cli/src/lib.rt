@@ -10,3 +10,6 @@ mod top;
 pub use answer::Answer;
 pub use run::BUDGET;
 pub use top::{Exit, rast};
+
+#[cfg(test)]
+mod tests;

@@ -1,6 +1,7 @@
 // `rast run`.
 ghost use Rattle.std.specs.Prelude.{◌≡◌, map, string_bytes, IfOk, IfSome, IsNone, List, ℕ};
 ghost use Rattle.rast_io.specs.Causes.{Rose};
+ghost use Rattle.rast_core.specs.Promises.{CanStart};
 ghost use Rattle.rast_cli.specs.Asked.{Asks};
 ghost use Rattle.rast_cli.specs.Reported.{IsReport};
 ghost use Rattle.rast_cli.specs.Answered.{IsRefusal, Comes};
@@ -58,6 +59,7 @@ fn refuse(alloc: Global, answer: Answer) -> Result<Said, AllocError>
 
 // Runs a program and reports it.
 fn report(alloc: Global, program: &Program) -> Result<Made, AllocError>
+    requires { CanStart program.now }
     ensures { IfOk result (λ r. IsReport BUDGET program.now r.outcome r.text.items r.history.items) }
 {
     Err(AllocError)

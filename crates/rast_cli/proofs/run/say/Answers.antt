@@ -1,5 +1,6 @@
 use Rattle.std.proofs.Common.{◌≡◌, refl, rules}
 use Rattle.rast_cli.proofs.AnswerLemmas.{refused_usage, refused_not_yet}
+use Rattle.rast_cli.proofs.StartLemmas.{can_start}
 use Rattle.rast_cli.proofs.run.say.Goals as goal
 
 pub returns-in_default : goal.returns-in_default
@@ -12,3 +13,6 @@ returns-in-Err-NotYet g c =
     let still : g.F.Files.faults c.read_all.new.files ≡ g.F.Files.faults c.args.files.now = search rules in
     refused_not_yet _ _ _ _ _ _ c.refuse-in-Err-NotYet.result c.in-Ok.bytes.items c.in-Err-NotYet.at (record { name = c.in-Some.name.now; asks = c.in-Some.ensures.asks; has = bytes.0 }) bytes.1 none still
     c.refuse-in-Err-NotYet.ensures.answer c.refuse-in-Err-NotYet.ensures.refusal
+
+pub report-requires : goal.report-requires
+report-requires g c = can_start c.in_ok-program.program c.in-Ok-parse.file c.in_ok-program.ensures
