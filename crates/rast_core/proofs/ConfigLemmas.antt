@@ -3,7 +3,7 @@ use Rattle.std.proofs.Common.{◌≡◌, ℕ, zero, suc, Bool, true, false, cond
 use Rattle.std.specs.Prelude.{slice_get, All, option_to_list, ◌⊎◌}
 use Rattle.std.proofs.lemmas.List.{length-append, length-map}
 use Rattle.std.proofs.lemmas.List.Elements.{All-cons, All-nil}
-use Rattle.std.proofs.lemmas.Bool.{eqb-true, ne_eqb, cases_eq}
+use Rattle.std.proofs.lemmas.Bool.{eqb-true, eq-eqb, ne_eqb, cases_eq}
 use Rattle.std.proofs.lemmas.Option.{slice_get_within}
 use Rattle.rast_terms.specs.declared.program.Program.{Program}
 use Rattle.rast_core.specs.Words.{Link, Pid, Msg, Item, P, M, Proc, Event, Send, Take, Move, Spawn, Call, Work, Delay}
@@ -186,3 +186,13 @@ edit_bounded v i edit child k h b = decides_bounded k.code k.pid v.items i (leng
 
 pub edit_apt : (v : Shown) (i : ℕ) (edit : Edit) (child : Option Origin) → IsStepEdit v i edit child → IsApt edit v.items
 edit_apt v i edit child k = apt_by (step k.code (length v.origins) k.pid v.items) v.items i k.event edit child k.decides
+
+pub self_passes : (p : Proc) → is_proc p.pid (P p) ≡ true
+self_passes p = eq-eqb p.pid.0 p.pid.0 refl
+
+-- what is decided for the process at a place is decided for its step
+pub decided_here : (g : Program) (v : Shown) (xs : List Item) (i k : ℕ) (p : Proc) (r : Decision) → xs ≡ v.items → k ≡ length v.origins → IsCutAt (is_proc p.pid) xs i → slice_get xs i ≡ Some (P p) →
+    Decides (does (code_of g v) (take i xs) p (drop (i + 1) xs) (deed (code_of g v) k p)) xs i r → Decides (next_of g v p.pid) v.items i r
+decided_here g v xs i k p r e n t h d =
+    let s : next_of g v p.pid ≡ does (code_of g v) (take i xs) p (drop (i + 1) xs) (deed (code_of g v) k p) = ap₂ (λ (m : ℕ) (ys : List Item). step (code_of g v) m p.pid ys) (sym n) (sym e) ∙ step_at (code_of g v) k p.pid xs i p t h in
+    subst (λ (ys : List Item). Decides (next_of g v p.pid) ys i r) e (subst (λ (x : Next). Decides x xs i r) (sym s) d)
