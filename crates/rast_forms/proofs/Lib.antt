@@ -6,3 +6,4 @@ pub mod One
 pub mod Either
 pub mod Many
 pub mod Shapes
+pub mod Turns
