@@ -1,5 +1,5 @@
 -- Reading tokens from the left, by small readers put together.
-use Rattle.std.specs.Prelude.{ℕ, zero, suc, Bool, true, false, List, [], ◌∷◌, ◌++◌, length, Option, Some, None, cond, ◌==◌, ◌⊎◌}
+use Rattle.std.specs.Prelude.{◌≡◌, ℕ, ◌-◌, zero, suc, Bool, true, false, List, [], ◌∷◌, ◌++◌, length, Option, Some, None, cond, ◌==◌, ◌⊎◌}
 use Rattle.std.proofs.Common.{inl, inr}
 use Rattle.rast_forms.specs.Words.{Word, Name, Number, Fixed, starts}
 
@@ -98,3 +98,7 @@ front xs m = m >>= λ ys rest. Done (xs ++ ys) rest
 -- one reader or another of the same parts, by the first token
 abbrev pub choice_read : {X : Type 0} → List ℕ → Reader X → Reader X → Reader X
 choice_read first p q ts = cond (starts first ts) (p ts) (q ts)
+
+-- a loop that reads any number of parts, with so many turns, before one of them: what it has read, and what it will answer
+pub record IsUnderWay {X : Type 0} (first : List ℕ) (p : Reader X) (turns turn : ℕ) (xs : List X) (rest : List Word) (all : Read (List X)) : Type 0 where
+  pub so_far : front xs (many_read first p (turns - turn) rest) ≡ all

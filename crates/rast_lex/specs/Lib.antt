@@ -5,3 +5,4 @@ pub mod Numbers
 pub mod Pieces
 pub mod Tokens
 pub mod Fronts
+pub mod Meaning

@@ -5,9 +5,9 @@ use Rattle.rast_forms.specs.Reading.{Why, Syntax, Read, Done, Bad, given, one_re
 use Rattle.rast_ast.specs.declared.kind.Kind.{Kind}
 use Rattle.rast_ast.specs.declared.kind.Kind.TheVariants as kind
 use Rattle.rast_ast.specs.Kinds.{code}
-use Rattle.rast_parse.specs.Seen.{word_as, word_of, words}
+use Rattle.rast_lex.specs.Meaning.{slice_of, word_as, word_of, words}
+use Rattle.rast_lex.specs.declared.token.Token.{Token}
 use Rattle.rast_parse.specs.LinearReading.{fixed_read, is}
-use Rattle.rast_parse.specs.declared.cursor.Token.{Token}
 use Rattle.std.proofs.Common.{◌<◌, lit≤, lit<}
 use Rattle.std.proofs.lemmas.Bool.Decides.{nat_tests}
 use denote.Enum.Bare.{sameb}

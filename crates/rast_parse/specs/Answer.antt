@@ -5,7 +5,7 @@ use Rattle.rast_forms.specs.Reading.{Why, Syntax, TooDeep, Read, Done, Bad}
 use Rattle.rast_parse.specs.declared.cursor.Fault.{Fault}
 use Rattle.rast_parse.specs.declared.cursor.Fault.TheVariants as fault
 use Rattle.rast_parse.specs.declared.cursor.Cursor.{Cursor}
-use Rattle.rast_parse.specs.Seen.{seen}
+use Rattle.rast_parse.specs.Cursors.{seen}
 
 -- A refusal says how many tokens are left. Want of memory may always come.
 abbrev pub FailsAs : {X : Type 0} → Fault → Read X → Type 0

@@ -1,3 +1,4 @@
 pub mod Seen
+pub mod Cursors
 pub mod Answer
 pub mod LinearReading

@@ -1,28 +1,23 @@
--- The tokens of a text as the grammar sees them.
-use Rattle.std.specs.Prelude.{ℕ, ◌+◌, ◌*◌, ◌-◌, List, [], ◌∷◌, take, drop, fold}
-use Rattle.rast_forms.specs.Words.{Word, Name, Number}
+-- What a cursor has before it, and what is known of its tokens.
+use Rattle.std.specs.Prelude.{ℕ, ◌+◌, nat_le, Bool, true, ◌&&◌, List, [], ◌∷◌, length}
+use Rattle.rast_forms.specs.Words.{Word}
 use Rattle.rast_ast.specs.declared.kind.Kind.{Kind}
 use Rattle.rast_ast.specs.declared.kind.Kind.TheVariants as kind
-use Rattle.rast_ast.specs.Written.{sign}
-use Rattle.rast_parse.specs.declared.cursor.Token.{Token}
-use Rattle.rast_parse.specs.declared.cursor.Cursor.{Cursor}
+use Rattle.rast_ast.specs.Names.{is_name}
+use Rattle.rast_lex.specs.declared.token.Token.{Token}
+use Rattle.rast_lex.specs.Numbers.{is_number}
+use Rattle.rast_lex.specs.Meaning.{slice_of}
 
-abbrev value_from : ℕ → List ℕ → ℕ
-value_from n [] = n
-value_from n (c ∷ cs) = value_from (10 * n + (c - 48)) cs
+-- whether the bytes of a token of this kind are as they must be
+abbrev pub is_good_as : Kind → List ℕ → Bool
+is_good_as kind.Name bytes = is_name bytes
+is_good_as kind.Number bytes = is_number bytes
+is_good_as k bytes = true
 
-abbrev pub word_as : Kind → List ℕ → Word
-word_as kind.Name bytes = Name bytes
-word_as kind.Number bytes = Number (value_from 0 bytes)
-word_as k bytes = sign k
+-- whether a token lies in the text, and is a name or a number where its kind says so
+abbrev pub is_good : List ℕ → Token → Bool
+is_good text t = nat_le (t.at + t.len) (length text) && is_good_as t.kind (slice_of text t)
 
-abbrev pub word_of : List ℕ → Token → Word
-word_of text t = word_as t.kind (take t.len (drop t.at text))
-
-abbrev pub words : List ℕ → List Token → List Word
-words text [] = []
-words text (t ∷ ts) = word_of text t ∷ words text ts
-
--- what a cursor has before it
-abbrev pub seen : Cursor → List Word
-seen c = words c.text.now c.tokens.now
+abbrev pub are_good : List ℕ → List Token → Bool
+are_good text [] = true
+are_good text (t ∷ ts) = is_good text t && are_good text ts

@@ -1,22 +1,15 @@
 // A place among the tokens of a text.
-ghost use Rattle.std.specs.Prelude.{◌≡◌, ◌-◌, ◌≤◌, length, drop, map, List, ℕ, ◌∷◌, []};
+ghost use Rattle.std.specs.Prelude.{◌≡◌, ◌+◌, ◌-◌, ◌≤◌, IsTrue, take, length, drop, map, List, ℕ, ◌∷◌, []};
 ghost use Rattle.rast_forms.specs.Words.{starts};
 ghost use Rattle.rast_ast.specs.Kinds.{code};
-ghost use Rattle.rast_parse.specs.Seen.{seen};
-ghost use Rattle.rast_parse.specs.Answer.{Gives, Passes, limit_fault};
+ghost use Rattle.rast_lex.specs.Numbers.{is_number, value_of};
+ghost use Rattle.rast_parse.specs.Seen.{are_good};
 ghost use Rattle.rast_parse.specs.declared.cursor.Fault.TheVariants as fault;
 ghost use Rattle.rast_parse.specs.LinearReading.{fixed_read, name_read, number_read, is};
 
 use rast_ast::{Kind, Name};
+use rast_lex::{Token, value_of};
 use std::alloc::{AllocError, AllocFailed, Global};
-
-/// A token.
-#[derive(Clone, Copy, Debug, PartialEq, Eq)]
-pub struct Token {
-    pub kind: Kind,
-    pub at: usize,
-    pub len: usize,
-}
 
 /// Why reading ends.
 #[derive(Clone, Copy, Debug, PartialEq, Eq)]
@@ -53,9 +46,13 @@ impl<T: Drop> From<AllocFailed<T>> for Fault {
 pub(crate) struct Cursor<'a> {
     pub text: &'a [u8],
     pub tokens: &'a [Token],
+    ghost good: { IsTrue (are_good text.now tokens.now) },
 }
 
 impl<'a> Cursor<'a> {
+    ghost use Rattle.rast_parse.specs.Cursors.{seen};
+    ghost use Rattle.rast_parse.specs.Answer.{Gives, Passes, limit_fault};
+
     // Whether the first token is of this kind.
     pub fn at(self, kind: Kind) -> bool
         ensures { result ≡ starts (is kind) (seen self.entry) }
@@ -79,7 +76,7 @@ impl<'a> Cursor<'a> {
     }
 
     // How many tokens are left.
-    fn left(self) -> usize
+    pub fn left(self) -> usize
         ensures { result ≡ length (seen self.entry) }
     {
         self.tokens.len()
@@ -140,13 +137,53 @@ impl<'a> Cursor<'a> {
     pub fn name(self, alloc: Global) -> Result<(Name, Cursor<'a>), Fault>
         ensures { Gives result (name_read (seen self.entry)) }
     {
-        Err(Fault::Memory)
+        match self.tokens.split_first() {
+            Some((token, rest)) => {
+                if token.kind == Kind::Name {
+                    let name = Name::new(alloc, part(self.text, token.at, token.len))?;
+                    Ok((name, Cursor { text: self.text, tokens: rest }))
+                } else {
+                    Err(self.wrong())
+                }
+            }
+            None => Err(self.wrong()),
+        }
     }
 
     // A number.
     pub fn number(self) -> Result<(u32, Cursor<'a>), Fault>
         ensures { Gives result (number_read (seen self.entry)) }
     {
-        Err(Fault::Memory)
+        match self.tokens.split_first() {
+            Some((token, rest)) => {
+                if token.kind == Kind::Number {
+                    let number = number_of(part(self.text, token.at, token.len));
+                    Ok((number, Cursor { text: self.text, tokens: rest }))
+                } else {
+                    Err(self.wrong())
+                }
+            }
+            None => Err(self.wrong()),
+        }
+    }
+}
+
+// The bytes of a token.
+fn part(text: &[u8], at: u32, len: u32) -> &[u8]
+    requires { at + len ≤ length text.now }
+    ensures { result.now ≡ take len (drop at text.now) }
+{
+    let at = at as usize;
+    &text[at..at + len as usize]
+}
+
+// The value of the digits of a number.
+fn number_of(digits: &[u8]) -> u32
+    requires { IsTrue (is_number digits.now) }
+    ensures { result ≡ value_of digits.now }
+{
+    match value_of(digits) {
+        Some(value) => value,
+        None => unreachable!(),
     }
 }

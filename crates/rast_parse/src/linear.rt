@@ -1,7 +1,8 @@
 // Linear terms.
 ghost use Rattle.std.specs.Prelude.{◌≡◌, ◌-◌, length, List, ℕ};
-ghost use Rattle.rast_parse.specs.Seen.{seen};
+ghost use Rattle.rast_parse.specs.Cursors.{seen};
 ghost use Rattle.rast_parse.specs.Answer.{Gives, FailsAs};
+ghost use Rattle.rast_forms.specs.Reading.{seq_read};
 ghost use Rattle.rast_parse.specs.LinearReading.{term_read, term_by, number_by, group_by, further_read, lin_read, term_limit, sign_read};
 
 use crate::cursor::{Cursor, Fault};
@@ -88,16 +89,28 @@ impl<'a> Cursor<'a> {
     {
         let mut items = Items::new(alloc);
         let mut rest = self;
-        for _turn in 0..self.tokens.len() {
-            if !(rest.at(Kind::Plus) || rest.at(Kind::Minus)) {
+        for _turn in 0..self.left() {
+            if !rest.at_any(&[Kind::Plus, Kind::Minus]) {
                 return Ok((items, rest));
             }
-            let (sign, after) = rest.sign()?;
-            let (term, after) = after.term(alloc, depth, in_formula)?;
-            items.push((sign, term))?;
-            rest = after;
+            match rest.signed_term(alloc, depth, in_formula) {
+                Ok((term, after)) => {
+                    items.push(term)?;
+                    rest = after;
+                }
+                Err(fault) => return Err(fault),
+            }
         }
         Ok((items, rest))
+    }
+
+    #[cycle(linear)]
+    fn signed_term(self, alloc: Global, depth: usize, in_formula: bool) -> Result<((Sign, Term), Cursor<'a>), Fault>
+        ensures { Gives result (seq_read sign_read (term_read in_formula depth) (seen self.entry)) }
+    {
+        let (sign, rest) = self.sign()?;
+        let (term, rest) = rest.term(alloc, depth, in_formula)?;
+        Ok(((sign, term), rest))
     }
 
     fn sign(self) -> Result<(Sign, Cursor<'a>), Fault>

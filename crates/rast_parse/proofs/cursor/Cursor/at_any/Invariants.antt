@@ -1,7 +1,7 @@
 use Rattle.std.proofs.Common.{◌≡◌, map, drop}
 use Rattle.rast_forms.specs.Words.{starts}
 use Rattle.rast_ast.specs.Kinds.{code}
-use Rattle.rast_parse.specs.Seen.{seen}
+use Rattle.rast_parse.specs.Cursors.{seen}
 use Rattle.rast_parse.proofs.cursor.Cursor.at_any.Given as goal
 
 abbrev pub invariant-loop-kind : goal.invariant-loop-kind
