@@ -7,3 +7,6 @@ pub mod Either
 pub mod Many
 pub mod Shapes
 pub mod Turns
+pub mod Between
+pub mod Guarded
+pub mod Ahead
