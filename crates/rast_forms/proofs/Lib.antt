@@ -10,3 +10,4 @@ pub mod Turns
 pub mod Between
 pub mod Guarded
 pub mod Ahead
+pub mod Chain
