@@ -1,7 +1,7 @@
 -- Refusals of the code, and how reading ends.
 use Rattle.std.proofs.Common.{◌≡◌, ℕ, ◌<◌, Bool, true, false, List, length, refl}
 use Rattle.rast_forms.specs.Words.{Word}
-use Rattle.rast_forms.specs.Reading.{Why, Syntax, TooDeep, Read, Done, Bad, Reader, limited, IsUnderWay}
+use Rattle.rast_forms.specs.Reading.{Syntax, Read, Bad, Reader, limited, IsUnderWay}
 use Rattle.rast_forms.specs.Words.{starts}
 use Rattle.rast_forms.proofs.Turns.{at_bad}
 use Rattle.rast_parse.specs.declared.cursor.Fault.{Fault}

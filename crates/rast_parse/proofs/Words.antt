@@ -1,11 +1,11 @@
 -- Kinds of tokens and what the grammar sees of them.
-use Rattle.std.proofs.Common.{◌≡◌, ℕ, suc, ◌+◌, ◌-◌, ◌≤◌, Bool, true, false, ◌||◌, ◌==◌, cond, List, [], ◌∷◌, take, drop, Option, Some, None, length, ap, ap₂, sym, ◌∙◌, refl, arith}
-use Rattle.rast_forms.specs.Words.{Word, Fixed, key_of, is_in, starts}
-use Rattle.rast_forms.specs.Reading.{Why, Syntax, Read, Done, Bad, given, one_read, get_fixed}
+use Rattle.std.proofs.Common.{◌≡◌, ℕ, suc, ◌-◌, ◌≤◌, Bool, true, false, ◌||◌, ◌==◌, cond, List, [], ◌∷◌, take, drop, Some, None, length, ap, ap₂, sym, ◌∙◌, refl, arith}
+use Rattle.rast_forms.specs.Words.{key_of, starts}
+use Rattle.rast_forms.specs.Reading.{Syntax, Done, Bad, get_fixed}
 use Rattle.rast_ast.specs.declared.kind.Kind.{Kind}
 use Rattle.rast_ast.specs.declared.kind.Kind.TheVariants as kind
 use Rattle.rast_ast.specs.Kinds.{code}
-use Rattle.rast_lex.specs.Meaning.{slice_of, word_as, word_of, words}
+use Rattle.rast_lex.specs.Meaning.{word_as, words}
 use Rattle.rast_lex.specs.declared.token.Token.{Token}
 use Rattle.rast_parse.specs.LinearReading.{fixed_read, is}
 use Rattle.std.proofs.Common.{◌<◌, lit≤, lit<}

@@ -1,8 +1,8 @@
 -- Reading linear terms.
-use Rattle.std.specs.Prelude.{ℕ, zero, suc, ◌-◌, Bool, true, false, ◌&&◌, cond, List, [], ◌∷◌, drop, ◌⊎◌}
+use Rattle.std.specs.Prelude.{ℕ, zero, suc, ◌-◌, Bool, ◌&&◌, cond, List, [], ◌∷◌, drop, ◌⊎◌}
 use Rattle.std.proofs.Common.{inl, inr}
-use Rattle.rast_forms.specs.Words.{Word, starts}
-use Rattle.rast_forms.specs.Reading.{Why, Syntax, TooDeep, Read, Done, Bad, Reader, ◌>>=◌, one_read, get_name, get_number, get_fixed, seq_read, nil_read, alt_read, all_read, as_read, choice_read, limit_read}
+use Rattle.rast_forms.specs.Words.{starts}
+use Rattle.rast_forms.specs.Reading.{Syntax, Bad, Reader, one_read, get_name, get_number, get_fixed, seq_read, nil_read, alt_read, all_read, as_read, choice_read, limit_read}
 use Rattle.rast_ast.specs.declared.kind.Kind.{Kind}
 use Rattle.rast_ast.specs.declared.kind.Kind.TheVariants as kind
 use Rattle.rast_ast.specs.declared.term.Sign.{Sign}

@@ -1,6 +1,5 @@
 -- What a cursor has before it, and what is known of its tokens.
 use Rattle.std.specs.Prelude.{ℕ, ◌+◌, nat_le, Bool, true, ◌&&◌, List, [], ◌∷◌, length}
-use Rattle.rast_forms.specs.Words.{Word}
 use Rattle.rast_ast.specs.declared.kind.Kind.{Kind}
 use Rattle.rast_ast.specs.declared.kind.Kind.TheVariants as kind
 use Rattle.rast_ast.specs.Names.{is_name}

@@ -24,6 +24,7 @@ pub(crate) enum Fault {
 impl From<AllocError> for Fault {
     ghost use Rattle.std.specs.Prelude.{◌≡◌};
     ghost use Rattle.rast_parse.specs.declared.cursor.Fault.TheVariants.{Memory};
+
     ghost from_gives = { λ _ e. e ≡ Memory };
 
     fn from(_: AllocError) -> Fault {
@@ -34,6 +35,7 @@ impl From<AllocError> for Fault {
 impl<T: Drop> From<AllocFailed<T>> for Fault {
     ghost use Rattle.std.specs.Prelude.{◌≡◌};
     ghost use Rattle.rast_parse.specs.declared.cursor.Fault.TheVariants.{Memory};
+
     ghost from_gives = { λ _ e. e ≡ Memory };
 
     fn from(_: AllocFailed<T>) -> Fault {
@@ -51,7 +53,7 @@ pub(crate) struct Cursor<'a> {
 
 impl<'a> Cursor<'a> {
     ghost use Rattle.rast_parse.specs.Cursors.{seen};
-    ghost use Rattle.rast_parse.specs.Answer.{Gives, Passes, limit_fault};
+    ghost use Rattle.rast_parse.specs.Answer.{Finds, Gives, Passes, limit_fault};
 
     // Whether the first token is of this kind.
     pub fn at(self, kind: Kind) -> bool
@@ -141,7 +143,13 @@ impl<'a> Cursor<'a> {
             Some((token, rest)) => {
                 if token.kind == Kind::Name {
                     let name = Name::new(alloc, part(self.text, token.at, token.len))?;
-                    Ok((name, Cursor { text: self.text, tokens: rest }))
+                    Ok((
+                        name,
+                        Cursor {
+                            text: self.text,
+                            tokens: rest,
+                        },
+                    ))
                 } else {
                     Err(self.wrong())
                 }
@@ -150,19 +158,35 @@ impl<'a> Cursor<'a> {
         }
     }
 
-    // A number.
-    pub fn number(self) -> Result<(u32, Cursor<'a>), Fault>
-        ensures { Gives result (number_read (seen self.entry)) }
+    // A number, if one comes.
+    pub fn first_number(self) -> Option<(u32, Cursor<'a>)>
+        ensures { Finds result (seen self.entry) (number_read (seen self.entry)) }
     {
         match self.tokens.split_first() {
             Some((token, rest)) => {
                 if token.kind == Kind::Number {
                     let number = number_of(part(self.text, token.at, token.len));
-                    Ok((number, Cursor { text: self.text, tokens: rest }))
+                    Some((
+                        number,
+                        Cursor {
+                            text: self.text,
+                            tokens: rest,
+                        },
+                    ))
                 } else {
-                    Err(self.wrong())
+                    None
                 }
             }
+            None => None,
+        }
+    }
+
+    // A number.
+    pub fn number(self) -> Result<(u32, Cursor<'a>), Fault>
+        ensures { Gives result (number_read (seen self.entry)) }
+    {
+        match self.first_number() {
+            Some(found) => Ok(found),
             None => Err(self.wrong()),
         }
     }

@@ -2,4 +2,10 @@
 #![tactic(auto)]
 
 mod cursor;
+mod formula;
 mod linear;
+mod parse;
+#[cfg(test)]
+mod tests;
+
+pub use parse::{ParseErr, parse_form};

@@ -13,7 +13,12 @@ use std::alloc::Global;
 impl<'a> Cursor<'a> {
     // A term, below at most `depth` open ones, itself counted.
     #[cycle(linear)]
-    pub fn term(self, alloc: Global, depth: usize, in_formula: bool) -> Result<(Term, Cursor<'a>), Fault>
+    pub fn term(
+        self,
+        alloc: Global,
+        depth: usize,
+        in_formula: bool,
+    ) -> Result<(Term, Cursor<'a>), Fault>
         ensures { Gives result (term_read in_formula depth (seen self.entry)) }
     {
         if depth == 0 {
@@ -34,7 +39,12 @@ impl<'a> Cursor<'a> {
 
     // A term whose parts are below at most `depth` open ones.
     #[cycle(linear)]
-    fn term_below(self, alloc: Global, depth: usize, in_formula: bool) -> Result<(Term, Cursor<'a>), Fault>
+    fn term_below(
+        self,
+        alloc: Global,
+        depth: usize,
+        in_formula: bool,
+    ) -> Result<(Term, Cursor<'a>), Fault>
         ensures { Gives result (term_by (term_read in_formula depth) (seen self.entry)) }
     {
         if self.at(Kind::Number) {
@@ -48,7 +58,12 @@ impl<'a> Cursor<'a> {
     }
 
     #[cycle(linear)]
-    fn number_term(self, alloc: Global, depth: usize, in_formula: bool) -> Result<(Term, Cursor<'a>), Fault>
+    fn number_term(
+        self,
+        alloc: Global,
+        depth: usize,
+        in_formula: bool,
+    ) -> Result<(Term, Cursor<'a>), Fault>
         ensures { Gives result (number_by (term_read in_formula depth) (seen self.entry)) }
     {
         let (number, rest) = self.number()?;
@@ -62,7 +77,12 @@ impl<'a> Cursor<'a> {
     }
 
     #[cycle(linear)]
-    fn group(self, alloc: Global, depth: usize, in_formula: bool) -> Result<(Term, Cursor<'a>), Fault>
+    fn group(
+        self,
+        alloc: Global,
+        depth: usize,
+        in_formula: bool,
+    ) -> Result<(Term, Cursor<'a>), Fault>
         ensures { Gives result (group_by (term_read in_formula depth) (seen self.entry)) }
     {
         let rest = self.expect(Kind::OpenParen)?;
@@ -73,18 +93,34 @@ impl<'a> Cursor<'a> {
 
     // A linear term whose terms are below at most `depth` open ones.
     #[cycle(linear)]
-    pub fn lin(self, alloc: Global, depth: usize, in_formula: bool) -> Result<(Lin, Cursor<'a>), Fault>
+    pub fn lin(
+        self,
+        alloc: Global,
+        depth: usize,
+        in_formula: bool,
+    ) -> Result<(Lin, Cursor<'a>), Fault>
         ensures { Gives result (lin_read in_formula depth (seen self.entry)) }
     {
         let (first, rest) = self.term(alloc, depth, in_formula)?;
         let (further, rest) = rest.further_terms(alloc, depth, in_formula)?;
         let first = Boxed::new(alloc, first)?;
-        Ok((Lin { first, rest: further }, rest))
+        Ok((
+            Lin {
+                first,
+                rest: further,
+            },
+            rest,
+        ))
     }
 
     // The further terms, each behind its sign.
     #[cycle(linear)]
-    fn further_terms(self, alloc: Global, depth: usize, in_formula: bool) -> Result<(Items<(Sign, Term)>, Cursor<'a>), Fault>
+    fn further_terms(
+        self,
+        alloc: Global,
+        depth: usize,
+        in_formula: bool,
+    ) -> Result<(Items<(Sign, Term)>, Cursor<'a>), Fault>
         ensures { Gives result (further_read (term_read in_formula depth) (seen self.entry)) }
     {
         let mut items = Items::new(alloc);
@@ -105,7 +141,12 @@ impl<'a> Cursor<'a> {
     }
 
     #[cycle(linear)]
-    fn signed_term(self, alloc: Global, depth: usize, in_formula: bool) -> Result<((Sign, Term), Cursor<'a>), Fault>
+    fn signed_term(
+        self,
+        alloc: Global,
+        depth: usize,
+        in_formula: bool,
+    ) -> Result<((Sign, Term), Cursor<'a>), Fault>
         ensures { Gives result (seq_read sign_read (term_read in_formula depth) (seen self.entry)) }
     {
         let (sign, rest) = self.sign()?;

@@ -1,4 +1,4 @@
-use Rattle.rast_forms.proofs.Turns.{at_start, at_end, at_last, at_turn}
+use Rattle.rast_forms.proofs.Turns.{at_end, at_last, at_turn}
 use Rattle.rast_parse.proofs.Faults.{at_fault}
 use Rattle.rast_parse.proofs.cursor.Cursor.+linear.Goals as goal
 

@@ -1,4 +1,4 @@
-use Rattle.std.proofs.Common.{◌≡◌, ℕ, ◌+◌, ◌*◌, ◌-◌, ◌∷◌, [], length}
+use Rattle.std.proofs.Common.{◌+◌, ◌*◌, ◌∷◌, [], length}
 use Rattle.rast_forms.specs.Reading.{seq_read, IsUnderWay}
 use Rattle.rast_ast.specs.Kinds.{code}
 use Rattle.rast_ast.specs.declared.kind.Kind.TheVariants as kind
@@ -29,4 +29,4 @@ decreases-term_below l = 6 * l.depth + 5
 
 abbrev pub invariant-further_terms-loop-turn : goal.invariant-further_terms-loop-turn
 invariant-further_terms-loop-turn l =
-  IsUnderWay (code kind.Plus ∷ code kind.Minus ∷ []) (seq_read sign_read (term_read l.in_formula l.depth)) (length (seen l.self)) l._turn l.items (seen l.rest) (further_read (term_read l.in_formula l.depth) (seen l.self))
+    IsUnderWay (code kind.Plus ∷ code kind.Minus ∷ []) (seq_read sign_read (term_read l.in_formula l.depth)) (length (seen l.self)) l._turn l.items (seen l.rest) (further_read (term_read l.in_formula l.depth) (seen l.self))

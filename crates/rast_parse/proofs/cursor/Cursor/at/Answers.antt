@@ -1,4 +1,4 @@
-use Rattle.std.proofs.Common.{sym, ◌∙◌}
+use Rattle.std.proofs.Common.{◌∙◌}
 use Rattle.rast_parse.proofs.Words.{starts_first}
 use Rattle.rast_parse.proofs.cursor.Cursor.at.Goals as goal
 
