@@ -7,11 +7,11 @@ use Rattle.rast_forms.proofs.Sets.{or_left, or_right, is_in-append, starts-appen
 use Rattle.rast_forms.proofs.Forms.{Form, spell, Comes, and_then, Begins, IsDeepAt, Found, Fails, Right, Exact, goes_on_both, goes_on_second, ends_before}
 use Rattle.rast_forms.proofs.Sequence.{or_first, or_second}
 
-abbrev alt_mark : {X Y : Type 0} → Form X → Form Y → X ⊎ Y → List Mark
+abbrev pub alt_mark : {X Y : Type 0} → Form X → Form Y → X ⊎ Y → List Mark
 alt_mark P Q (inl x) = P.mark x
 alt_mark P Q (inr y) = Q.mark y
 
-abbrev alt_fits : {X Y : Type 0} → Form X → Form Y → X ⊎ Y → Bool
+abbrev pub alt_fits : {X Y : Type 0} → Form X → Form Y → X ⊎ Y → Bool
 alt_fits P Q (inl x) = P.fits x
 alt_fits P Q (inr y) = Q.fits y
 

@@ -1,6 +1,6 @@
 -- Any number of parts, as long as the first token says so.
 use Rattle.std.proofs.Common.{◌≡◌, ℕ, zero, suc, max, ◌+◌, ◌<◌, ◌≤◌, Bool, true, false, ◌&&◌, cond, not, List, [], ◌∷◌, ◌++◌, map, length, ap, ap₂, sym, ◌∙◌, refl, subst, ◌⊎◌, inl, inr, arith, append_assoc, length-append, append-nil}
-use Rattle.rast_forms.specs.Words.{Word, key_of, is_in, starts, is_apart}
+use Rattle.rast_forms.specs.Words.{Word, key_of, is_in, starts, is_apart, all_true}
 use Rattle.rast_forms.specs.Marks.{Mark, bare, highest, joined, IsShallow}
 use Rattle.rast_forms.specs.Reading.{Why, Syntax, TooDeep, Read, Done, Bad, Reader, ◌>>=◌, many_read, all_read}
 use Rattle.rast_forms.proofs.Sets.{and_left, and_right, and_both, starts_same}
@@ -9,14 +9,10 @@ use Rattle.rast_forms.proofs.Forms.{Form, spell, Comes, and_then, Begins, IsDeep
 use Rattle.rast_forms.proofs.Sequence.{deep_append}
 use Rattle.rast_forms.proofs.Either.{starts_true}
 
-abbrev all_fit : {X : Type 0} → (X → Bool) → List X → Bool
-all_fit fits [] = true
-all_fit fits (x ∷ xs) = fits x && all_fit fits xs
-
 abbrev pub many : {X : Type 0} → Form X → Form (List X)
 many P = record {
   mark = λ xs. joined (map P.mark xs);
-  fits = all_fit P.fits;
+  fits = λ xs. all_true (map P.fits xs);
   first = P.first;
   is_empty = true;
   goes_on = goes_on_both P.goes_on true P.first;
@@ -28,7 +24,7 @@ pub record FailsMany {X : Type 0} (bar : List ℕ) (d : ℕ) (why : Why) (P : Fo
   pub split : ts ≡ used ++ r
   pub local : why ≡ Syntax → (x : Word) (v w : List Word) (n : ℕ) → r ≡ x ∷ v → length (used ++ x ∷ w) ≤ n → many_read P.first p n (used ++ x ∷ w) ≡ Bad Syntax (x ∷ w)
   pub tree : List X
-  pub fits : all_fit P.fits tree ≡ true
+  pub fits : all_true (map P.fits tree) ≡ true
   pub seen : List Mark
   pub more : List Mark
   pub seen_is : bare seen ≡ used
@@ -38,7 +34,7 @@ pub record FailsMany {X : Type 0} (bar : List ℕ) (d : ℕ) (why : Why) (P : Fo
 
 pub record FoundMany {X : Type 0} (d : ℕ) (P : Form X) (p : Reader X) (ts : List Word) (xs : List X) (r : List Word) : Type 0 where
   pub split : ts ≡ spell (many P) xs ++ r
-  pub fits : all_fit P.fits xs ≡ true
+  pub fits : all_true (map P.fits xs) ≡ true
   pub low : highest (joined (map P.mark xs)) ≤ d
   pub local : (u : List Word) (y : Word) (v w : List Word) (n : ℕ) → r ≡ u ++ y ∷ v → length (spell (many P) xs ++ (u ++ y ∷ w)) ≤ n → many_read P.first p n (spell (many P) xs ++ (u ++ y ∷ w)) ≡ Done xs (u ++ y ∷ w)
 
@@ -57,7 +53,7 @@ module _ {X : Type 0} (bar : List ℕ) (d : ℕ) (P : Form X) (p : Reader X) (E 
   item_some : (x : X) → P.fits x ≡ true → 0 < length (spell P x)
   item_some x f = subst (λ z. 0 < length z) (append-nil (spell P x)) (some_word (spell P x ++ []) (begun x f []))
 
-  many_begins : (xs : List X) → all_fit P.fits xs ≡ true → Begins P.first true (spell (many P) xs)
+  many_begins : (xs : List X) → all_true (map P.fits xs) ≡ true → Begins P.first true (spell (many P) xs)
   many_begins [] f = refl
   many_begins (x ∷ xs) f = subst (Begins P.first true) (sym (bare-append (P.mark x) (joined (map P.mark xs)))) (at (spell P x) (E.begins x (and_left _ _ f)))
     where
@@ -66,7 +62,7 @@ module _ {X : Type 0} (bar : List ℕ) (d : ℕ) (P : Form X) (p : Reader X) (E 
     at (w ∷ ws) b = b
 
   -- the first item ends before the further ones
-  item_ends : (xs : List X) (r : List Word) → all_fit P.fits xs ≡ true → starts (goes_on_both P.goes_on true P.first) r ≡ false → starts P.goes_on (spell (many P) xs ++ r) ≡ false
+  item_ends : (xs : List X) (r : List Word) → all_true (map P.fits xs) ≡ true → starts (goes_on_both P.goes_on true P.first) r ≡ false → starts P.goes_on (spell (many P) xs ++ r) ≡ false
   item_ends xs r f g = ends_before P.goes_on P.first true P.first (spell (many P) xs) r apart (many_begins xs f) g
 
   -- one turn, where an item begins
@@ -77,7 +73,7 @@ module _ {X : Type 0} (bar : List ℕ) (d : ℕ) (P : Form X) (p : Reader X) (E 
   fewer x xs r n f le = let e = ap length (bare_split (P.mark x) (joined (map P.mark xs)) r) in
       omega (arith, le, item_some x f, e, length-append (spell P x) (spell (many P) xs ++ r))
 
-  many_complete : (n : ℕ) (xs : List X) (r : List Word) → length (spell (many P) xs ++ r) ≤ n → all_fit P.fits xs ≡ true → starts (goes_on_both P.goes_on true P.first) r ≡ false →
+  many_complete : (n : ℕ) (xs : List X) (r : List Word) → length (spell (many P) xs ++ r) ≤ n → all_true (map P.fits xs) ≡ true → starts (goes_on_both P.goes_on true P.first) r ≡ false →
       Comes d (highest (joined (map P.mark xs))) xs r (many_read P.first p n (spell (many P) xs ++ r))
   many_complete zero [] r le f g = inl refl
   many_complete (suc n) [] r le f g = inl (rw (goes_on_second P.goes_on true P.first r g) refl)

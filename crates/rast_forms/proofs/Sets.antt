@@ -1,6 +1,6 @@
 -- Sets of kinds, as lists.
 use Rattle.std.proofs.Common.{◌≡◌, ℕ, Bool, true, false, not, ◌&&◌, ◌||◌, ◌==◌, cond, List, [], ◌∷◌, ◌++◌, ap, ap₂, sym, ◌∙◌, refl, subst, ◌⊎◌, inl, inr, arith}
-use Rattle.std.proofs.lemmas.Bool.{eqb-true}
+use Rattle.std.proofs.lemmas.Bool.{eqb-true, eq-eqb}
 use Rattle.rast_forms.specs.Words.{Word, key_of, is_in, starts, is_apart, is_within}
 
 pub and_left : (a b : Bool) → (a && b) ≡ true → a ≡ true
@@ -73,3 +73,23 @@ starts_within xs ys (w ∷ ws) a h = within_false xs ys (key_of w) a h
 pub starts_same : (cs : List ℕ) (u : List Word) (x : Word) (v w : List Word) → starts cs (u ++ x ∷ v) ≡ starts cs (u ++ x ∷ w)
 starts_same cs [] x v w = refl
 starts_same cs (y ∷ u) x v w = refl
+
+within_more : (xs ys : List ℕ) (y : ℕ) → is_within xs ys ≡ true → is_within xs (y ∷ ys) ≡ true
+within_more [] ys y h = refl
+within_more (x ∷ xs) ys y h = and_both _ _ (or_more (x == y) (is_in ys x) (and_left _ _ h)) (within_more xs ys y (and_right _ _ h))
+  where
+  or_more : (a b : Bool) → b ≡ true → (a || b) ≡ true
+  or_more true b e = refl
+  or_more false b e = e
+
+pub within_refl : (xs : List ℕ) → is_within xs xs ≡ true
+within_refl [] = refl
+within_refl (x ∷ xs) = and_both _ _ (rw (eq-eqb x x refl) refl) (within_more xs xs x (within_refl xs))
+
+-- a set is within a longer one
+pub within_second : (ys xs zs : List ℕ) → is_within xs zs ≡ true → is_within xs (ys ++ zs) ≡ true
+within_second [] xs zs h = h
+within_second (y ∷ ys) xs zs h = within_more xs (ys ++ zs) y (within_second ys xs zs h)
+
+pub within_append : (ys xs : List ℕ) → is_within xs (ys ++ xs) ≡ true
+within_append ys xs = within_second ys xs xs (within_refl xs)
