@@ -88,9 +88,13 @@ one_at_most false = omega arith
 pub begun_bounded : (p : Proc) (room : ℕ) → room + 64 < 2 ^ 32 → p.pid ≡ pid_at 0 → p.own ≡ link_at 0 0 → p.uses ≡ [] → p.fresh ≡ 1 → p.moment ≡ 0 → p.spawned ≡ 0 → p.steps ≡ 0 → p.potential < 2 ^ 32 → IsBounded (P p ∷ []) 1 room
 begun_bounded p room b i o u f m w t q =
     let h : HasSlack (room + 1) p = record {
-          own = subst (IsOpen (room + 1)) (sym o) (let g : IsOpen (room + 1) (link_at 0 0) = omega (arith, b) in g);
-          uses = subst (All (λ (e : ℕ × Link). IsOpen (room + 1) e.1)) (sym u) (All-nil (λ (e : ℕ × Link). IsOpen (room + 1) e.1));
-          fresh = omega (arith, f, b); moment = omega (arith, m, b); spawned = omega (arith, w, b); steps = omega (arith, t, b) } in
+      own = subst (IsOpen (room + 1)) (sym o) (let g : IsOpen (room + 1) (link_at 0 0) = omega (arith, b) in g);
+      uses = subst (All (λ (e : ℕ × Link). IsOpen (room + 1) e.1)) (sym u) (All-nil (λ (e : ℕ × Link). IsOpen (room + 1) e.1));
+      fresh = omega (arith, f, b);
+      moment = omega (arith, m, b);
+      spawned = omega (arith, w, b);
+      steps = omega (arith, t, b);
+    } in
     record {
       slack = All-cons (IsItemSlack (room + 1)) (P p) [] (h, omega (arith, ap length u)) (All-nil (IsItemSlack (room + 1)));
       potential = omega (arith, q);

@@ -21,15 +21,15 @@ module _ {X Y : Type 0} (bar : List ℕ) (d : ℕ) (one : Word → Bool) (second
   goes_on_in : (r : List Word) → starts (alt P Q).goes_on r ≡ false → starts Q.goes_on r ≡ false
   goes_on_in r g = at Q.is_empty solid' (or_right (starts P.goes_on r) _ (sym (starts-append P.goes_on _ r) ∙ g))
     where
-    at : (b : Bool) → b ≡ false → starts (goes_on_both P.first b Q.goes_on) r ≡ false → starts Q.goes_on r ≡ false
-    at true e h = absurd (cc)
-    at false e h = h
+      at : (b : Bool) → b ≡ false → starts (goes_on_both P.first b Q.goes_on) r ≡ false → starts Q.goes_on r ≡ false
+      at true e h = absurd (cc)
+      at false e h = h
 
   ahead_complete : (s : X ⊎ Y) (r : List Word) → alt_fits P Q s ≡ true → starts (alt P Q).goes_on r ≡ false →
       Comes d (highest (alt_mark P Q s)) s r (ahead_read (two_test one second) p q (bare (alt_mark P Q s) ++ r))
   ahead_complete (inl x) r f g = rw (left x r f) (
       and_then d (highest (P.mark x)) (highest (P.mark x)) x r (inl x) r (p (spell P x ++ r)) _ (omega arith)
-        (E.complete x r f (or_left _ _ (sym (starts-append P.goes_on _ r) ∙ g))) (inl refl))
+      (E.complete x r f (or_left _ _ (sym (starts-append P.goes_on _ r) ∙ g))) (inl refl))
   ahead_complete (inr y) r f g = rw (right y r f (goes_on_in r g)) (
       and_then d (highest (Q.mark y)) (highest (Q.mark y)) y r (inr y) r (q (spell Q y ++ r)) _ (omega arith) (F.complete y r f (goes_on_in r g)) (inl refl))
 
@@ -44,9 +44,9 @@ module _ {X Y : Type 0} (bar : List ℕ) (d : ℕ) (one : Word → Bool) (second
       ((x : Word) (v w : List Word) → r ≡ x ∷ v → n (used ++ x ∷ w) ≡ Bad Syntax (x ∷ w)) → ts ≡ used ++ r → r ≡ z ∷ v → two_test one second ts ≡ b → two_test one second (used ++ z ∷ w) ≡ b
   stays_wrong n taken_n ts [] r z v w b local s t h = at (one z) refl
     where
-    at : (c : Bool) → one z ≡ c → two_test one second (z ∷ w) ≡ b
-    at true e = absurd (taken_n z e (local z v [] t))
-    at false e = rw e (sym (ap (λ k. k && starts second v) e) ∙ sym (ap (two_test one second) (s ∙ t)) ∙ h)
+      at : (c : Bool) → one z ≡ c → two_test one second (z ∷ w) ≡ b
+      at true e = absurd (taken_n z e (local z v [] t))
+      at false e = rw e (sym (ap (λ k. k && starts second v) e) ∙ sym (ap (two_test one second) (s ∙ t)) ∙ h)
   stays_wrong n taken_n ts (x ∷ used) r z v w b local s t h = two_same one second x used z w v ∙ ap (two_test one second) (sym (s ∙ ap (λ k. (x ∷ used) ++ k) t)) ∙ h
 
   ahead_left : (ts : List Word) → two_test one second ts ≡ true → (m : Read X) → Right bar d P p ts m → Right bar d (alt P Q) (ahead_read (two_test one second) p q) ts (m >>= λ x rest. Done (inl x) rest)

@@ -55,16 +55,16 @@ is_symbol : (k : ℕ) (ts : List Word) → starts (suc (suc k) ∷ []) ts ≡ tr
 is_symbol k [] e = absurd (cc)
 is_symbol k (Name bytes ∷ ts) e = absurd (low 0 (omega arith) e)
   where
-  low : (a : ℕ) → a < suc (suc k) → ((a == suc (suc k)) || false) ≡ true → ⊥
-  low a h f = grind (arith, nat_tests)
+    low : (a : ℕ) → a < suc (suc k) → ((a == suc (suc k)) || false) ≡ true → ⊥
+    low a h f = grind (arith, nat_tests)
 is_symbol k (Number value ∷ ts) e = absurd (low 1 (omega arith) e)
   where
-  low : (a : ℕ) → a < suc (suc k) → ((a == suc (suc k)) || false) ≡ true → ⊥
-  low a h f = grind (arith, nat_tests)
+    low : (a : ℕ) → a < suc (suc k) → ((a == suc (suc k)) || false) ≡ true → ⊥
+    low a h f = grind (arith, nat_tests)
 is_symbol k (Fixed which ∷ ts) e = let same : which ≡ k = one which e in (ts, ap (λ z. Fixed z ∷ ts) same)
   where
-  one : (a : ℕ) → ((suc (suc a) == suc (suc k)) || false) ≡ true → a ≡ k
-  one a f = grind (arith, nat_tests)
+    one : (a : ℕ) → ((suc (suc a) == suc (suc k)) || false) ≡ true → a ≡ k
+    one a f = grind (arith, nat_tests)
 
 solid_begins : (first : List ℕ) (empty : Bool) (ws : List Word) → empty ≡ false → Begins first empty ws → Begins first false ws
 solid_begins first empty [] e b = absurd (cc)
@@ -87,9 +87,9 @@ module _ {X : Type 0} (bar : List ℕ) (d k : ℕ) (goes ends : X → Bool) (F :
   item_some : (x : X) → F.fits x ≡ true → 0 < length (spell F x)
   item_some x f = at (spell F x) (E.begins x f) F.is_empty solid
     where
-    at : (ws : List Word) → Begins F.first F.is_empty ws → (b : Bool) → F.is_empty ≡ false → 0 < length ws
-    at [] g b e = absurd (cc)
-    at (w ∷ ws) g b e = omega arith
+      at : (ws : List Word) → Begins F.first F.is_empty ws → (b : Bool) → F.is_empty ≡ false → 0 < length ws
+      at [] g b e = absurd (cc)
+      at (w ∷ ws) g b e = omega arith
 
   high_is : (x : X) (xs : List X) (z : X) → highest (chain_mark k F (x ∷ xs, z)) ≡ max (highest (F.mark x)) (highest (chain_mark k F (xs, z)))
   high_is x xs z = ap highest (one_more_mark x xs z) ∙ highest-append (F.mark x) (plain (Fixed k) ∷ chain_mark k F (xs, z)) ∙ omega arith
@@ -128,7 +128,7 @@ module _ {X : Type 0} (bar : List ℕ) (d k : ℕ) (goes ends : X → Bool) (F :
   chain_complete (suc n) [] z r le f g h s = last_comes n z r (p (spell F z ++ r)) (E.complete z r (and_right _ _ g) h) (and_left _ _ g) s
   chain_complete (suc n) (x ∷ xs) z r le f g h s = rw (one_more_words x xs z r) (
       step_comes n x xs z r (p (spell F x ++ (Fixed k ∷ (bare (chain_mark k F (xs, z)) ++ r)))) (E.complete x _ (and_right _ _ (and_left _ _ f)) apart) (and_left (goes x) (F.fits x) (and_left _ _ f))
-        (chain_complete n xs z r (fewer x xs z r n le) (and_right _ _ f) g h s))
+      (chain_complete n xs z r (fewer x xs z r n le) (and_right _ _ f) g h s))
 
   RightChain : List Word → Read (List X × X) → Type 0
   RightChain ts (Done s r) = FoundChain d k goes ends F last p ts s r
@@ -138,36 +138,37 @@ module _ {X : Type 0} (bar : List ℕ) (d k : ℕ) (goes ends : X → Bool) (F :
   first_bad : (why : Why) (ts r : List Word) → Fails bar d why F p ts r → FailsChain bar d k why goes ends F last p ts r
   first_bad why ts r f = at (goes f.tree) refl
     where
-    loc : why ≡ Syntax → (x : Word) (v w : List Word) (n : ℕ) → r ≡ x ∷ v → length (f.used ++ x ∷ w) ≤ n → chain_read (suc (suc k) ∷ []) goes ends p n (f.used ++ x ∷ w) ≡ Bad Syntax (x ∷ w)
-    loc s x v w zero e le = absurd (omega (arith, le, length-append f.used (x ∷ w)))
-    loc s x v w (suc n) e le = rw (f.local s x v w e) refl
-    at : (b : Bool) → goes f.tree ≡ b → FailsChain bar d k why goes ends F last p ts r
-    at true e = record {
-      used = f.used;
-      split = f.split;
-      local = loc;
-      tree = (f.tree ∷ [], last);
-      fits = and_both _ _ (and_both _ _ (and_both _ _ e f.fits) refl) last_fits;
-      seen = f.seen;
-      more = f.more ++ (plain (Fixed k) ∷ F.mark last);
-      seen_is = f.seen_is;
-      viable = sym (append_assoc f.seen f.more (plain (Fixed k) ∷ F.mark last)) ∙ ap (λ z. z ++ (plain (Fixed k) ∷ F.mark last)) f.viable ∙ sym (one_more_mark f.tree [] last);
-      shallow = f.shallow;
-      deep = deep_append bar d why r f.more (plain (Fixed k) ∷ F.mark last) f.deep;
-    }
-    at false e = record {
-      used = f.used;
-      split = f.split;
-      local = loc;
-      tree = ([], f.tree);
-      fits = and_both _ _ (some_way f.tree e) f.fits;
-      seen = f.seen;
-      more = f.more;
-      seen_is = f.seen_is;
-      viable = f.viable;
-      shallow = f.shallow;
-      deep = f.deep;
-    }
+      loc : why ≡ Syntax → (x : Word) (v w : List Word) (n : ℕ) → r ≡ x ∷ v → length (f.used ++ x ∷ w) ≤ n → chain_read (suc (suc k) ∷ []) goes ends p n (f.used ++ x ∷ w) ≡ Bad Syntax (x ∷ w)
+      loc s x v w zero e le = absurd (omega (arith, le, length-append f.used (x ∷ w)))
+      loc s x v w (suc n) e le = rw (f.local s x v w e) refl
+
+      at : (b : Bool) → goes f.tree ≡ b → FailsChain bar d k why goes ends F last p ts r
+      at true e = record {
+        used = f.used;
+        split = f.split;
+        local = loc;
+        tree = (f.tree ∷ [], last);
+        fits = and_both _ _ (and_both _ _ (and_both _ _ e f.fits) refl) last_fits;
+        seen = f.seen;
+        more = f.more ++ (plain (Fixed k) ∷ F.mark last);
+        seen_is = f.seen_is;
+        viable = sym (append_assoc f.seen f.more (plain (Fixed k) ∷ F.mark last)) ∙ ap (λ z. z ++ (plain (Fixed k) ∷ F.mark last)) f.viable ∙ sym (one_more_mark f.tree [] last);
+        shallow = f.shallow;
+        deep = deep_append bar d why r f.more (plain (Fixed k) ∷ F.mark last) f.deep;
+      }
+      at false e = record {
+        used = f.used;
+        split = f.split;
+        local = loc;
+        tree = ([], f.tree);
+        fits = and_both _ _ (some_way f.tree e) f.fits;
+        seen = f.seen;
+        more = f.more;
+        seen_is = f.seen_is;
+        viable = f.viable;
+        shallow = f.shallow;
+        deep = f.deep;
+      }
 
   -- a part is read that isn't the last, and no symbol follows
   no_symbol : (ts : List Word) (x : X) (more : List Word) → Found d F p ts x more → ends x ≡ false → goes x ≡ true → starts (suc (suc k) ∷ []) more ≡ false → FailsChain bar d k Syntax goes ends F last p ts more
@@ -185,23 +186,24 @@ module _ {X : Type 0} (bar : List ℕ) (d k : ℕ) (goes ends : X → Bool) (F :
     deep = tt;
   }
     where
-    loc : Syntax ≡ Syntax → (y : Word) (v w : List Word) (n : ℕ) → more ≡ y ∷ v → length (spell F x ++ y ∷ w) ≤ n → chain_read (suc (suc k) ∷ []) goes ends p n (spell F x ++ y ∷ w) ≡ Bad Syntax (y ∷ w)
-    loc t y v w zero h le = absurd (omega (arith, le, length-append (spell F x) (y ∷ w)))
-    loc t y v w (suc n) h le = rw (f.local [] y v w h, ap (starts (suc (suc k) ∷ [])) (sym h) ∙ s, e) refl
+      loc : Syntax ≡ Syntax → (y : Word) (v w : List Word) (n : ℕ) → more ≡ y ∷ v → length (spell F x ++ y ∷ w) ≤ n → chain_read (suc (suc k) ∷ []) goes ends p n (spell F x ++ y ∷ w) ≡ Bad Syntax (y ∷ w)
+      loc t y v w zero h le = absurd (omega (arith, le, length-append (spell F x) (y ∷ w)))
+      loc t y v w (suc n) h le = rw (f.local [] y v w h, ap (starts (suc (suc k) ∷ [])) (sym h) ∙ s, e) refl
 
   -- the last part is read
   last_found : (ts : List Word) (x : X) (more : List Word) → Found d F p ts x more → ends x ≡ true → (starts (suc (suc k) ∷ []) more ≡ false) ⊎ (goes x ≡ false) → FoundChain d k goes ends F last p ts ([], x) more
   last_found ts x more f e s = record { split = f.split; fits = and_both _ _ e f.fits; low = f.low; local = λ u y v w n. loc s u y v w n }
     where
-    turn : (b : Bool) (all : List Word) (n : ℕ) → (b ≡ false) ⊎ (goes x ≡ false) → chain_turn (suc (suc k) ∷ []) goes ends (chain_read (suc (suc k) ∷ []) goes ends p n) x b all ≡ Done ([], x) all
-    turn true all n (inl t) = absurd (cc)
-    turn true all n (inr t) = rw t refl
-    turn false all n t = rw e refl
-    loc : (starts (suc (suc k) ∷ []) more ≡ false) ⊎ (goes x ≡ false) → (u : List Word) (y : Word) (v w : List Word) (n : ℕ) → more ≡ u ++ y ∷ v → length (spell F x ++ (u ++ y ∷ w)) ≤ n →
-        chain_read (suc (suc k) ∷ []) goes ends p n (spell F x ++ (u ++ y ∷ w)) ≡ Done ([], x) (u ++ y ∷ w)
-    loc t u y v w zero h le = absurd (omega (arith, le, length-append (spell F x) (u ++ y ∷ w), length-append u (y ∷ w)))
-    loc (inl t) u y v w (suc n) h le = rw (f.local u y v w h) (turn (starts (suc (suc k) ∷ []) (u ++ y ∷ w)) (u ++ y ∷ w) n (inl (starts_same (suc (suc k) ∷ []) u y w v ∙ ap (starts (suc (suc k) ∷ [])) (sym h) ∙ t)))
-    loc (inr t) u y v w (suc n) h le = rw (f.local u y v w h) (turn (starts (suc (suc k) ∷ []) (u ++ y ∷ w)) (u ++ y ∷ w) n (inr t))
+      turn : (b : Bool) (all : List Word) (n : ℕ) → (b ≡ false) ⊎ (goes x ≡ false) → chain_turn (suc (suc k) ∷ []) goes ends (chain_read (suc (suc k) ∷ []) goes ends p n) x b all ≡ Done ([], x) all
+      turn true all n (inl t) = absurd (cc)
+      turn true all n (inr t) = rw t refl
+      turn false all n t = rw e refl
+
+      loc : (starts (suc (suc k) ∷ []) more ≡ false) ⊎ (goes x ≡ false) → (u : List Word) (y : Word) (v w : List Word) (n : ℕ) → more ≡ u ++ y ∷ v → length (spell F x ++ (u ++ y ∷ w)) ≤ n →
+          chain_read (suc (suc k) ∷ []) goes ends p n (spell F x ++ (u ++ y ∷ w)) ≡ Done ([], x) (u ++ y ∷ w)
+      loc t u y v w zero h le = absurd (omega (arith, le, length-append (spell F x) (u ++ y ∷ w), length-append u (y ∷ w)))
+      loc (inl t) u y v w (suc n) h le = rw (f.local u y v w h) (turn (starts (suc (suc k) ∷ []) (u ++ y ∷ w)) (u ++ y ∷ w) n (inl (starts_same (suc (suc k) ∷ []) u y w v ∙ ap (starts (suc (suc k) ∷ [])) (sym h) ∙ t)))
+      loc (inr t) u y v w (suc n) h le = rw (f.local u y v w h) (turn (starts (suc (suc k) ∷ []) (u ++ y ∷ w)) (u ++ y ∷ w) n (inr t))
 
   -- a part is read, and a symbol follows, and further parts
   further : (ts : List Word) (x : X) (more : List Word) → Found d F p ts x (Fixed k ∷ more) → goes x ≡ true → (m : Read (List X × X)) → RightChain more m → RightChain ts (longer x m)
@@ -213,15 +215,16 @@ module _ {X : Type 0} (bar : List ℕ) (d k : ℕ) (goes ends : X → Bool) (F :
     local = loc;
   }
     where
-    reads : (u : List Word) (y : Word) (v w : List Word) → r ≡ u ++ y ∷ v → p (spell F x ++ (Fixed k ∷ (bare (chain_mark k F (xs, z)) ++ (u ++ y ∷ w)))) ≡ Done x (Fixed k ∷ (bare (chain_mark k F (xs, z)) ++ (u ++ y ∷ w)))
-    reads u y v w e = let a : p (spell F x ++ ((Fixed k ∷ (bare (chain_mark k F (xs, z)) ++ u)) ++ y ∷ w)) ≡ Done x ((Fixed k ∷ (bare (chain_mark k F (xs, z)) ++ u)) ++ y ∷ w)
+      reads : (u : List Word) (y : Word) (v w : List Word) → r ≡ u ++ y ∷ v → p (spell F x ++ (Fixed k ∷ (bare (chain_mark k F (xs, z)) ++ (u ++ y ∷ w)))) ≡ Done x (Fixed k ∷ (bare (chain_mark k F (xs, z)) ++ (u ++ y ∷ w)))
+      reads u y v w e = let a : p (spell F x ++ ((Fixed k ∷ (bare (chain_mark k F (xs, z)) ++ u)) ++ y ∷ w)) ≡ Done x ((Fixed k ∷ (bare (chain_mark k F (xs, z)) ++ u)) ++ y ∷ w)
           = f.local (Fixed k ∷ (bare (chain_mark k F (xs, z)) ++ u)) y v w (ap (λ q. Fixed k ∷ q) (h.split ∙ ap (λ q. bare (chain_mark k F (xs, z)) ++ q) e ∙ sym (append_assoc (bare (chain_mark k F (xs, z))) u (y ∷ v))))
-        in rw (append_assoc (bare (chain_mark k F (xs, z))) u (y ∷ w)) at a
-    loc : (u : List Word) (y : Word) (v w : List Word) (n : ℕ) → r ≡ u ++ y ∷ v → length (bare (chain_mark k F (x ∷ xs, z)) ++ (u ++ y ∷ w)) ≤ n →
-        chain_read (suc (suc k) ∷ []) goes ends p n (bare (chain_mark k F (x ∷ xs, z)) ++ (u ++ y ∷ w)) ≡ Done (x ∷ xs, z) (u ++ y ∷ w)
-    loc u y v w zero e le = absurd (omega (arith, le, length-append (bare (chain_mark k F (x ∷ xs, z))) (u ++ y ∷ w), length-append u (y ∷ w)))
-    loc u y v w (suc n) e le = ap (chain_read (suc (suc k) ∷ []) goes ends p (suc n)) (one_more_words x xs z (u ++ y ∷ w))
-        ∙ at_step n _ x (bare (chain_mark k F (xs, z)) ++ (u ++ y ∷ w)) (reads u y v w e) g ∙ ap (longer x) (h.local u y v w n e (fewer x xs z (u ++ y ∷ w) n le))
+          in rw (append_assoc (bare (chain_mark k F (xs, z))) u (y ∷ w)) at a
+
+      loc : (u : List Word) (y : Word) (v w : List Word) (n : ℕ) → r ≡ u ++ y ∷ v → length (bare (chain_mark k F (x ∷ xs, z)) ++ (u ++ y ∷ w)) ≤ n →
+          chain_read (suc (suc k) ∷ []) goes ends p n (bare (chain_mark k F (x ∷ xs, z)) ++ (u ++ y ∷ w)) ≡ Done (x ∷ xs, z) (u ++ y ∷ w)
+      loc u y v w zero e le = absurd (omega (arith, le, length-append (bare (chain_mark k F (x ∷ xs, z))) (u ++ y ∷ w), length-append u (y ∷ w)))
+      loc u y v w (suc n) e le = ap (chain_read (suc (suc k) ∷ []) goes ends p (suc n)) (one_more_words x xs z (u ++ y ∷ w))
+          ∙ at_step n _ x (bare (chain_mark k F (xs, z)) ++ (u ++ y ∷ w)) (reads u y v w e) g ∙ ap (longer x) (h.local u y v w n e (fewer x xs z (u ++ y ∷ w) n le))
   further ts x more f g (Bad why r) h = record {
     used = spell F x ++ (Fixed k ∷ h.used);
     split = f.split ∙ ap (λ q. spell F x ++ (Fixed k ∷ q)) h.split ∙ sym (append_assoc (spell F x) (Fixed k ∷ h.used) r);
@@ -236,12 +239,12 @@ module _ {X : Type 0} (bar : List ℕ) (d k : ℕ) (goes ends : X → Bool) (F :
     deep = h.deep;
   }
     where
-    loc : why ≡ Syntax → (y : Word) (v w : List Word) (n : ℕ) → r ≡ y ∷ v → length ((spell F x ++ (Fixed k ∷ h.used)) ++ y ∷ w) ≤ n →
-        chain_read (suc (suc k) ∷ []) goes ends p n ((spell F x ++ (Fixed k ∷ h.used)) ++ y ∷ w) ≡ Bad Syntax (y ∷ w)
-    loc s y v w zero e le = absurd (omega (arith, le, length-append (spell F x ++ (Fixed k ∷ h.used)) (y ∷ w)))
-    loc s y v w (suc n) e le = ap (chain_read (suc (suc k) ∷ []) goes ends p (suc n)) (append_assoc (spell F x) (Fixed k ∷ h.used) (y ∷ w))
-        ∙ at_step n _ x (h.used ++ y ∷ w) (f.local (Fixed k ∷ h.used) y v w (ap (λ q. Fixed k ∷ q) (h.split ∙ ap (λ q. h.used ++ q) e))) g
-        ∙ ap (longer x) (h.local s y v w n e (omega (arith, le, length-append (spell F x ++ (Fixed k ∷ h.used)) (y ∷ w), length-append (spell F x) (Fixed k ∷ h.used), length-append h.used (y ∷ w))))
+      loc : why ≡ Syntax → (y : Word) (v w : List Word) (n : ℕ) → r ≡ y ∷ v → length ((spell F x ++ (Fixed k ∷ h.used)) ++ y ∷ w) ≤ n →
+          chain_read (suc (suc k) ∷ []) goes ends p n ((spell F x ++ (Fixed k ∷ h.used)) ++ y ∷ w) ≡ Bad Syntax (y ∷ w)
+      loc s y v w zero e le = absurd (omega (arith, le, length-append (spell F x ++ (Fixed k ∷ h.used)) (y ∷ w)))
+      loc s y v w (suc n) e le = ap (chain_read (suc (suc k) ∷ []) goes ends p (suc n)) (append_assoc (spell F x) (Fixed k ∷ h.used) (y ∷ w))
+          ∙ at_step n _ x (h.used ++ y ∷ w) (f.local (Fixed k ∷ h.used) y v w (ap (λ q. Fixed k ∷ q) (h.split ∙ ap (λ q. h.used ++ q) e))) g
+          ∙ ap (longer x) (h.local s y v w n e (omega (arith, le, length-append (spell F x ++ (Fixed k ∷ h.used)) (y ∷ w), length-append (spell F x) (Fixed k ∷ h.used), length-append h.used (y ∷ w))))
 
   -- after a part is read
   at_symbol : (n : ℕ) (ts : List Word) (x : X) (more : List Word) → Found d F p ts x more → ((us : List Word) → length us ≤ n → RightChain us (chain_read (suc (suc k) ∷ []) goes ends p n us)) → length ts ≤ suc n →
@@ -249,9 +252,9 @@ module _ {X : Type 0} (bar : List ℕ) (d k : ℕ) (goes ends : X → Bool) (F :
   unfolding RightChain
   at_symbol n ts x more f IH le s true g = at (is_symbol k more s)
     where
-    at : (v : List Word) × (more ≡ Fixed k ∷ v) → RightChain ts (longer x (chain_read (suc (suc k) ∷ []) goes ends p n (after_first more)))
-    at (v, e) = rw e (further ts x v (subst (Found d F p ts x) e f) g (chain_read (suc (suc k) ∷ []) goes ends p n v)
-        (IH v (omega (arith, le, ap length f.split, ap length e, length-append (spell F x) more))))
+      at : (v : List Word) × (more ≡ Fixed k ∷ v) → RightChain ts (longer x (chain_read (suc (suc k) ∷ []) goes ends p n (after_first more)))
+      at (v, e) = rw e (further ts x v (subst (Found d F p ts x) e f) g (chain_read (suc (suc k) ∷ []) goes ends p n v)
+          (IH v (omega (arith, le, ap length f.split, ap length e, length-append (spell F x) more))))
   at_symbol n ts x more f IH le s false g = last_found ts x more f (some_way x g) (inr g)
 
   after_last : (ts : List Word) (x : X) (more : List Word) → Found d F p ts x more → starts (suc (suc k) ∷ []) more ≡ false → (b : Bool) → ends x ≡ b → RightChain ts (cond b (Done ([], x) more) (Bad Syntax more))
@@ -272,7 +275,17 @@ module _ {X : Type 0} (bar : List ℕ) (d k : ℕ) (goes ends : X → Bool) (F :
 
   nothing : FailsChain bar d k Syntax goes ends F last p [] []
   nothing = record {
-    used = []; split = refl; local = λ s x v w n e. absurd (cc); tree = ([], last); fits = last_fits; seen = []; more = F.mark last; seen_is = refl; viable = refl; shallow = tt; deep = tt;
+    used = [];
+    split = refl;
+    local = λ s x v w n e. absurd (cc);
+    tree = ([], last);
+    fits = last_fits;
+    seen = [];
+    more = F.mark last;
+    seen_is = refl;
+    viable = refl;
+    shallow = tt;
+    deep = tt;
   }
 
   chain_sound : (n : ℕ) (ts : List Word) → length ts ≤ n → RightChain ts (chain_read (suc (suc k) ∷ []) goes ends p n ts)
@@ -286,8 +299,17 @@ module _ {X : Type 0} (bar : List ℕ) (d k : ℕ) (goes ends : X → Bool) (F :
   unfolding RightChain
   as_chain ts (Done s r) f = record { split = f.split; fits = f.fits; low = f.low; local = λ u y v w e. f.local u y v w (length (bare (chain_mark k F s) ++ (u ++ y ∷ w))) e (omega arith) }
   as_chain ts (Bad why r) f = record {
-    used = f.used; split = f.split; local = λ s x v w e. f.local s x v w (length (f.used ++ x ∷ w)) e (omega arith);
-    tree = f.tree; fits = f.fits; seen = f.seen; more = f.more; seen_is = f.seen_is; viable = f.viable; shallow = f.shallow; deep = f.deep;
+    used = f.used;
+    split = f.split;
+    local = λ s x v w e. f.local s x v w (length (f.used ++ x ∷ w)) e (omega arith);
+    tree = f.tree;
+    fits = f.fits;
+    seen = f.seen;
+    more = f.more;
+    seen_is = f.seen_is;
+    viable = f.viable;
+    shallow = f.shallow;
+    deep = f.deep;
   }
 
   chain_begins : (s : List X × X) → (chain k goes ends F last).fits s ≡ true → Begins F.first false (bare (chain_mark k F s))

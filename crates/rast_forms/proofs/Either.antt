@@ -36,11 +36,11 @@ module _ {X Y : Type 0} (bar : List ℕ) (d : ℕ) (P : Form X) (Q : Form Y) (p 
       Comes d (highest (alt_mark P Q s)) s r (alt_read P.first p q (bare (alt_mark P Q s) ++ r))
   alt_complete (inl x) r f g = rw (starts_true P.first P.is_empty (spell P x) r solid (E.begins x f)) (
       and_then d (highest (P.mark x)) (highest (P.mark x)) x r (inl x) r (p (spell P x ++ r)) _ (omega arith)
-        (E.complete x r f (or_left _ _ (sym (starts-append P.goes_on _ r) ∙ g))) (inl refl))
+      (E.complete x r f (or_left _ _ (sym (starts-append P.goes_on _ r) ∙ g))) (inl refl))
   alt_complete (inr y) r f g = let h : starts (goes_on_both P.first Q.is_empty Q.goes_on) r ≡ false = or_right (starts P.goes_on r) _ (sym (starts-append P.goes_on _ r) ∙ g) in
       rw (ends_before P.first Q.first Q.is_empty Q.goes_on (spell Q y) r apart (F.begins y f) h) (
       and_then d (highest (Q.mark y)) (highest (Q.mark y)) y r (inr y) r (q (spell Q y ++ r)) _ (omega arith)
-        (F.complete y r f (goes_on_second P.first Q.is_empty Q.goes_on r h)) (inl refl))
+      (F.complete y r f (goes_on_second P.first Q.is_empty Q.goes_on r h)) (inl refl))
 
   -- which of the two it is stays, whatever stands behind the token after it
   stays : (ts a u : List Word) (z : Word) (v w r : List Word) (b : Bool) → ts ≡ a ++ r → r ≡ u ++ z ∷ v → starts P.first ts ≡ b → starts P.first (a ++ (u ++ z ∷ w)) ≡ b

@@ -31,7 +31,17 @@ module _ {X Y : Type 0} (bar : List ℕ) (d : ℕ) (P : Form X) (Q : Form Y) (p 
   as_guarded : (ts : List Word) (m : Read (X ⊎ Y)) → Right bar d (alt P Q) (alt_read P.first p q) ts m → Right bar d (guarded true P Q) (alt_read P.first p q) ts m
   as_guarded ts (Done s r) h = record { split = h.split; fits = same_fits s ∙ h.fits; low = h.low; local = h.local }
   as_guarded ts (Bad why r) h = record {
-    used = h.used; split = h.split; local = h.local; tree = h.tree; fits = same_fits h.tree ∙ h.fits; seen = h.seen; more = h.more; seen_is = h.seen_is; viable = h.viable; shallow = h.shallow; deep = h.deep;
+    used = h.used;
+    split = h.split;
+    local = h.local;
+    tree = h.tree;
+    fits = same_fits h.tree ∙ h.fits;
+    seen = h.seen;
+    more = h.more;
+    seen_is = h.seen_is;
+    viable = h.viable;
+    shallow = h.shallow;
+    deep = h.deep;
   }
 
   with_it : Exact bar d (guarded true P Q) (alt_read P.first p q)
@@ -54,9 +64,9 @@ module _ {X Y : Type 0} (bar : List ℕ) (d : ℕ) (P : Form X) (Q : Form Y) (p 
   goes_on_in : is_within Q.goes_on (P.goes_on ++ goes_on_both P.first Q.is_empty Q.goes_on) ≡ true
   goes_on_in = within_second P.goes_on Q.goes_on _ (at Q.is_empty)
     where
-    at : (b : Bool) → is_within Q.goes_on (goes_on_both P.first b Q.goes_on) ≡ true
-    at true = within_append P.first Q.goes_on
-    at false = within_refl Q.goes_on
+      at : (b : Bool) → is_within Q.goes_on (goes_on_both P.first b Q.goes_on) ≡ true
+      at true = within_append P.first Q.goes_on
+      at false = within_refl Q.goes_on
 
   without : Exact bar d (guarded false P Q) (never_inl q)
   without = shape_exact bar d Q q F (guarded false P Q) inr from_right right_there (λ y. refl) (λ y. refl) (within_append P.first Q.first) refl goes_on_in F.some_fits

@@ -25,7 +25,7 @@ module _ {X T : Type 0} (bar : List ℕ) (d : ℕ) (P : Form X) (p : Reader X) (
   shape_complete : (t : T) (r : List Word) → G.fits t ≡ true → starts G.goes_on r ≡ false → Comes d (highest (G.mark t)) t r (as_read to p (spell G t ++ r))
   shape_complete t r f g = subst (λ (z : List Mark). Comes d (highest z) t r (as_read to p (bare z ++ r))) (sym (from_mark t f))
       (and_then d (highest (P.mark (from t))) (highest (P.mark (from t))) (from t) r t r (p (spell P (from t) ++ r)) _ (omega arith)
-        (E.complete (from t) r (from_fits t f) (starts_within P.goes_on G.goes_on r goes_on_in g)) (inl (ap (λ z. Done z r) (there t f))))
+      (E.complete (from t) r (from_fits t f) (starts_within P.goes_on G.goes_on r goes_on_in g)) (inl (ap (λ z. Done z r) (there t f))))
 
   shape_right : (ts : List Word) (m : Read X) → Right bar d P p ts m → Right bar d G (as_read to p) ts (m >>= λ x rest. Done (to x) rest)
   shape_right ts (Done x r) h = record {

@@ -37,6 +37,6 @@ module _ {X : Type 0} {first : List ℕ} {p : Reader X} {n k : ℕ} {xs : List X
 pub at_start : {X : Type 0} (first : List ℕ) (p : Reader X) (n : ℕ) (r : List Word) → IsUnderWay first p n 0 [] r (many_read first p n r)
 at_start {X} first p n r = record { so_far = let e : n - 0 ≡ n = omega arith in rw e (at (many_read first p n r)) }
   where
-  at : (m : Read (List X)) → front [] m ≡ m
-  at (Done xs r) = refl
-  at (Bad why r) = refl
+    at : (m : Read (List X)) → front [] m ≡ m
+    at (Done xs r) = refl
+    at (Bad why r) = refl
