@@ -1,6 +1,6 @@
 -- The grammar of files: the tokens of each, and the starred nonterminals that are open at them.
 use Rattle.std.specs.Prelude.{◌≡◌, ℕ, Bool, true, false, ◌&&◌, ◌||◌, List, [], ◌∷◌, ◌++◌, map, Option, Some, None, is_none}
-use Rattle.rast_forms.specs.Words.{Word}
+use Rattle.rast_forms.specs.Words.{Word, all_true}
 use Rattle.rast_forms.specs.Marks.{Mark, bare, joined, ◌▸◌}
 use Rattle.rast_ast.specs.declared.kind.Kind.TheVariants as kind
 use Rattle.rast_ast.specs.declared.term.Lin.{Lin}
@@ -10,7 +10,7 @@ use Rattle.rast_ast.specs.declared.file.Item.{Item}
 use Rattle.rast_ast.specs.declared.file.Item.TheVariants as item
 use Rattle.rast_ast.specs.declared.file.Channel.{Channel}
 use Rattle.rast_ast.specs.Written.{fixed, name}
-use Rattle.rast_ast.specs.Formulas.{form_marks, form_fits, all_true}
+use Rattle.rast_ast.specs.Formulas.{form_marks, form_fits}
 use Rattle.rast_ast.specs.Types.{braced, type_marks, type_fits}
 use Rattle.rast_ast.specs.Processes.{names_marks, optional_by, by_fits, proc_marks, proc_fits}
 

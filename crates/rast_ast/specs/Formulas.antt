@@ -1,6 +1,7 @@
 -- The grammar of formulas: the tokens of each, and the starred nonterminals that are open at them.
 use Rattle.std.specs.Prelude.{ℕ, Bool, true, false, not, ◌&&◌, ◌==◌, List, [], ◌∷◌, map}
 use Rattle.std.specs.List.{list_all}
+use Rattle.rast_forms.specs.Words.{all_true}
 use Rattle.rast_forms.specs.Marks.{Mark, starred, joined, ◌▸◌}
 use Rattle.rast_ast.specs.declared.kind.Kind.TheVariants as kind
 use Rattle.rast_ast.specs.declared.form.Rel.{Rel}
@@ -58,10 +59,6 @@ abbrev pub literal_marks : Literal → List Mark
 literal_marks = fold-Literal (List Mark) (List Mark) (List Mark) (List Mark) form_step literal_step conjunction_step disjunction_step
 
 -- ---- which formulas the grammar has: a divisor is at least 1
-
-abbrev pub all_true : List Bool → Bool
-all_true [] = true
-all_true (b ∷ bs) = b && all_true bs
 
 abbrev pub form_proper : Form-F Bool Bool Bool Bool → Bool
 form_proper (Plain d) = d

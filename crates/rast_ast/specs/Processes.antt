@@ -1,5 +1,6 @@
 -- The grammar of process terms: the tokens of each, and the starred nonterminals that are open at them.
 use Rattle.std.specs.Prelude.{ℕ, Bool, true, false, ◌&&◌, ◌||◌, List, [], ◌∷◌, map, Option, Some, None, is_none}
+use Rattle.rast_forms.specs.Words.{all_true}
 use Rattle.rast_forms.specs.Marks.{Mark, starred, joined, ◌▸◌}
 use Rattle.rast_ast.specs.declared.kind.Kind.TheVariants as kind
 use Rattle.rast_ast.specs.declared.process.Ref.{Ref}
@@ -14,7 +15,6 @@ use Rattle.rast_ast.specs.declared.process.End.TheOpen.{End-F, Proc-F, Branch-F,
 use Rattle.rast_ast.specs.declared.process.End.TheFolds.{fold-End, fold-Proc, fold-Branch}
 use Rattle.rast_ast.specs.Written.{fixed, name, number}
 use Rattle.rast_ast.specs.Types.{braced, args_marks}
-use Rattle.rast_ast.specs.Formulas.{all_true}
 
 -- {Id}
 abbrev pub names_marks : List (List ℕ) → List Mark

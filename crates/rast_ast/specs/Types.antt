@@ -1,5 +1,6 @@
 -- The grammar of types: the tokens of each, and the starred nonterminals that are open at them.
 use Rattle.std.specs.Prelude.{ℕ, Bool, true, false, ◌&&◌, List, [], ◌∷◌, map}
+use Rattle.rast_forms.specs.Words.{all_true}
 use Rattle.rast_forms.specs.Marks.{Mark, starred, joined, ◌▸◌}
 use Rattle.rast_ast.specs.declared.kind.Kind.TheVariants as kind
 use Rattle.rast_ast.specs.declared.term.Lin.{Lin}
@@ -12,7 +13,7 @@ use Rattle.rast_ast.specs.declared.type_expr.Atom.TheOpen.{TypeExpr-F, Atom-F, C
 use Rattle.rast_ast.specs.declared.type_expr.Atom.TheFolds.{fold-TypeExpr, fold-Atom, fold-Choice}
 use Rattle.rast_ast.specs.Written.{fixed, name, number}
 use Rattle.rast_ast.specs.Linear.{lin_marks}
-use Rattle.rast_ast.specs.Formulas.{form_marks, form_fits, all_true}
+use Rattle.rast_ast.specs.Formulas.{form_marks, form_fits}
 
 -- "{" Lin "}"
 abbrev pub braced : Lin → List Mark

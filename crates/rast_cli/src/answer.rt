@@ -15,9 +15,7 @@ pub enum Answer {
     /// The file has too many bytes.
     TooLong,
     /// The file has a form that isn't built; `at` is the byte at which it begins.
-    NotYet {
-        at: u32,
-    },
+    NotYet { at: u32 },
     /// The program was run, and came to this outcome.
     Ran(Outcome),
 }

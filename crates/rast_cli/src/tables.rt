@@ -13,11 +13,7 @@ use sqlite_items::Items;
 use std::alloc::{AllocError, Global};
 
 // `1`, or a name by the number of its definition.
-fn part_type(
-    alloc: Global,
-    definitions: &[Definition],
-    part: &Part,
-) -> Result<Ty, AllocError>
+fn part_type(alloc: Global, definitions: &[Definition], part: &Part) -> Result<Ty, AllocError>
     ensures { IfOk result (λ t. t ≡ part_type definitions.now part.now) }
 {
     match part {

@@ -79,20 +79,62 @@ fn each_status_has_its_text(rt: HostRuntime) -> Result<(), Fail> {
         (TWO, run_two, 2, NEVER, 3, "read fault\n"),
         (TWO, run_two, 3, NEVER, 3, "read fault\n"),
         (TWO, run_two, NEVER, 2, 4, "finished\ns"),
-        (TWO, ["rast", "run", "none"].as_slice(), NEVER, NEVER, 3, "read fault\n"),
+        (
+            TWO,
+            ["rast", "run", "none"].as_slice(),
+            NEVER,
+            NEVER,
+            3,
+            "read fault\n",
+        ),
         (TWO, ["rast"].as_slice(), NEVER, NEVER, 2, USAGE),
         (TWO, ["rast", "run"].as_slice(), NEVER, NEVER, 2, USAGE),
-        (TWO, ["rast", "walk", "two.rast"].as_slice(), NEVER, NEVER, 2, USAGE),
-        (TWO, ["rast", "run", "two.rast", "now"].as_slice(), NEVER, NEVER, 2, USAGE),
-        (COPY, run_two, NEVER, NEVER, 1, "refused: not yet at byte 0\n"),
-        ("#", run_two, NEVER, NEVER, 1, "refused: not yet at byte 0\n"),
+        (
+            TWO,
+            ["rast", "walk", "two.rast"].as_slice(),
+            NEVER,
+            NEVER,
+            2,
+            USAGE,
+        ),
+        (
+            TWO,
+            ["rast", "run", "two.rast", "now"].as_slice(),
+            NEVER,
+            NEVER,
+            2,
+            USAGE,
+        ),
+        (
+            COPY,
+            run_two,
+            NEVER,
+            NEVER,
+            1,
+            "refused: not yet at byte 0\n",
+        ),
+        (
+            "#",
+            run_two,
+            NEVER,
+            NEVER,
+            1,
+            "refused: not yet at byte 0\n",
+        ),
         ("", run_two, NEVER, 1, 4, ""),
     ];
     for (text, words, read, write, status, want) in rows {
         let ended = run(alloc, text.as_bytes().to_vec(alloc)?, words, read, write)?;
         assert_eq!(rt; ended.status, status);
         assert_eq!(rt; ended.written.as_slice(), want.as_bytes());
-        assert_eq!(rt; ended.events, if status == 0 || want == "finished\ns" { 4 } else { 0 });
+        assert_eq!(rt;
+            ended.events,
+            if status == 0 || want == "finished\ns" {
+                4
+            } else {
+                0
+            }
+        );
     }
     Ok(())
 }
@@ -116,7 +158,9 @@ fn a_file_has_a_greatest_length(rt: HostRuntime) -> Result<(), Fail> {
 fn a_long_run_is_out_of_budget(rt: HostRuntime) -> Result<(), Fail> {
     let alloc = rt.alloc();
     let mut text = Vec::new(alloc);
-    text.extend_from_slice(b"explicit type nat = +{z : 1, s : nat} decl two : . |- (x : nat) proc x <- two = ")?;
+    text.extend_from_slice(
+        b"explicit type nat = +{z : 1, s : nat} decl two : . |- (x : nat) proc x <- two = ",
+    )?;
     for _ in 0..100_000 {
         text.extend_from_slice(b"x.s ; ")?;
     }

@@ -45,12 +45,7 @@ fn want<O: Sink>(out: &mut O)
 ///
 /// `words` begins with the program's name. Statuses: 0 finished, 1 refused, 2 usage, 3 a read fault, 4 a write fault,
 /// 6 out of budget, 7 an index of 2^64 or more, 8 want of memory, 9 too long, 10 blocked.
-pub fn rast<F: Files, O: Sink>(
-    alloc: Global,
-    words: &[String],
-    files: &mut F,
-    out: &mut O,
-) -> Exit
+pub fn rast<F: Files, O: Sink>(alloc: Global, words: &[String], files: &mut F, out: &mut O) -> Exit
     ensures answered { (result.status ≡ 8) ⊎ ((answer : Answer) × (text : List ℕ)
         × Comes BUDGET LIMIT (map string_bytes words.now) (F.held files.old) (Rose (F.faults files.old) (F.faults files.new)) (F.faults files.new ≡ F.faults files.old) answer text result.history.items
         × Ends (O.told out.old) (O.told out.new) (O.faults out.old) (O.faults out.new) text (code_of answer) result.status) }

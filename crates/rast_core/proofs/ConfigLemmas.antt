@@ -3,7 +3,7 @@ use Rattle.std.proofs.Common.{◌≡◌, ℕ, zero, suc, Bool, true, false, cond
 use Rattle.std.specs.Prelude.{slice_get, All, option_to_list, ◌⊎◌}
 use Rattle.std.proofs.lemmas.List.{length-append, length-map}
 use Rattle.std.proofs.lemmas.List.Elements.{All-cons, All-nil}
-use Rattle.std.proofs.lemmas.Bool.{eqb-true, ne_eqb, cases_eq}
+use Rattle.std.proofs.lemmas.Bool.{eqb-true, eq-eqb, ne_eqb, cases_eq}
 use Rattle.std.proofs.lemmas.Option.{slice_get_within}
 use Rattle.rast_terms.specs.declared.program.Program.{Program}
 use Rattle.rast_core.specs.Words.{Link, Pid, Msg, Item, P, M, Proc, Event, Send, Take, Move, Spawn, Call, Work, Delay}
@@ -88,9 +88,13 @@ one_at_most false = omega arith
 pub begun_bounded : (p : Proc) (room : ℕ) → room + 64 < 2 ^ 32 → p.pid ≡ pid_at 0 → p.own ≡ link_at 0 0 → p.uses ≡ [] → p.fresh ≡ 1 → p.moment ≡ 0 → p.spawned ≡ 0 → p.steps ≡ 0 → p.potential < 2 ^ 32 → IsBounded (P p ∷ []) 1 room
 begun_bounded p room b i o u f m w t q =
     let h : HasSlack (room + 1) p = record {
-          own = subst (IsOpen (room + 1)) (sym o) (let g : IsOpen (room + 1) (link_at 0 0) = omega (arith, b) in g);
-          uses = subst (All (λ (e : ℕ × Link). IsOpen (room + 1) e.1)) (sym u) (All-nil (λ (e : ℕ × Link). IsOpen (room + 1) e.1));
-          fresh = omega (arith, f, b); moment = omega (arith, m, b); spawned = omega (arith, w, b); steps = omega (arith, t, b) } in
+      own = subst (IsOpen (room + 1)) (sym o) (let g : IsOpen (room + 1) (link_at 0 0) = omega (arith, b) in g);
+      uses = subst (All (λ (e : ℕ × Link). IsOpen (room + 1) e.1)) (sym u) (All-nil (λ (e : ℕ × Link). IsOpen (room + 1) e.1));
+      fresh = omega (arith, f, b);
+      moment = omega (arith, m, b);
+      spawned = omega (arith, w, b);
+      steps = omega (arith, t, b);
+    } in
     record {
       slack = All-cons (IsItemSlack (room + 1)) (P p) [] (h, omega (arith, ap length u)) (All-nil (IsItemSlack (room + 1)));
       potential = omega (arith, q);
@@ -186,3 +190,13 @@ edit_bounded v i edit child k h b = decides_bounded k.code k.pid v.items i (leng
 
 pub edit_apt : (v : Shown) (i : ℕ) (edit : Edit) (child : Option Origin) → IsStepEdit v i edit child → IsApt edit v.items
 edit_apt v i edit child k = apt_by (step k.code (length v.origins) k.pid v.items) v.items i k.event edit child k.decides
+
+pub self_passes : (p : Proc) → is_proc p.pid (P p) ≡ true
+self_passes p = eq-eqb p.pid.0 p.pid.0 refl
+
+-- what is decided for the process at a place is decided for its step
+pub decided_here : (g : Program) (v : Shown) (xs : List Item) (i k : ℕ) (p : Proc) (r : Decision) → xs ≡ v.items → k ≡ length v.origins → IsCutAt (is_proc p.pid) xs i → slice_get xs i ≡ Some (P p) →
+    Decides (does (code_of g v) (take i xs) p (drop (i + 1) xs) (deed (code_of g v) k p)) xs i r → Decides (next_of g v p.pid) v.items i r
+decided_here g v xs i k p r e n t h d =
+    let s : next_of g v p.pid ≡ does (code_of g v) (take i xs) p (drop (i + 1) xs) (deed (code_of g v) k p) = ap₂ (λ (m : ℕ) (ys : List Item). step (code_of g v) m p.pid ys) (sym n) (sym e) ∙ step_at (code_of g v) k p.pid xs i p t h in
+    subst (λ (ys : List Item). Decides (next_of g v p.pid) ys i r) e (subst (λ (x : Next). Decides x xs i r) (sym s) d)

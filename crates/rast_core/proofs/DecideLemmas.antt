@@ -98,6 +98,9 @@ pub make_decided : (c : Code) (items : List Item) (i : ℕ) (p child rest : Proc
     pid ≡ p.pid → kid ≡ child.pid → moment ≡ rest.moment → ordinal ≡ rest.spawned →
     Decides (does c (take i items) p (drop (i + 1) items) (Makes child rest d)) items i (Do (Spawn pid kid d moment) (Two (P rest) (P child)) (Some (record { parent = pid; ordinal = ordinal })))
 make_decided c items i p child rest pid kid d moment ordinal h f r e k m o =
-    let same : (a b : Pid) (x y : ℕ) → a ≡ b → x ≡ y → let u : Origin = record { parent = a; ordinal = x } in let v : Origin = record { parent = b; ordinal = y } in u ∷ [] ≡ v ∷ [] = λ a b x y s t. ap₂ (λ (q : Pid) (n : ℕ). (let u : Origin = record { parent = q; ordinal = n } in u ∷ [])) s t in
-    (ap₂ (λ (q : Pid) (t : ℕ). Spawn q kid d t) e m ∙ ap (λ (q : Pid). Spawn p.pid q d rest.moment) k, two_at_place items i (P rest) (P child) h, tt,
-      same pid p.pid ordinal (ordinal_in (cut (is_proc p.pid) (take i items ++ (P rest ∷ (P child ∷ drop (i + 1) items))))) e (o ∙ sym (ordinal_of (take i items) (P child ∷ drop (i + 1) items) p.pid rest f r)))
+    let same : (a b : Pid) (x y : ℕ) → a ≡ b → x ≡ y → let u : Origin = record { parent = a; ordinal = x } in let v : Origin = record { parent = b; ordinal = y } in u ∷ [] ≡ v ∷ [] = λ a b x y s t. ap₂ (λ (q : Pid) (n : ℕ). (let u : Origin = record { parent = q; ordinal = n } in u ∷ [])) s t in (
+      ap₂ (λ (q : Pid) (t : ℕ). Spawn q kid d t) e m ∙ ap (λ (q : Pid). Spawn p.pid q d rest.moment) k,
+      two_at_place items i (P rest) (P child) h,
+      tt,
+      same pid p.pid ordinal (ordinal_in (cut (is_proc p.pid) (take i items ++ (P rest ∷ (P child ∷ drop (i + 1) items))))) e (o ∙ sym (ordinal_of (take i items) (P child ∷ drop (i + 1) items) p.pid rest f r)),
+    )

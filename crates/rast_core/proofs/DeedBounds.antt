@@ -144,15 +144,16 @@ if_keep s k p false d f = tt
 arguments_keep : (s k : ℕ) (p : Proc) (es : List Linear) (decl : Decl) (f : List ℕ → ℕ → Deed) → ((ns : List ℕ) (q : ℕ) → DeedKeeps s k p (f ns q)) → DeedKeeps s k p (with_arguments p es decl f)
 arguments_keep s k p es decl f t =
     if_keep s k p (nat_le (length es) 16) (with_values (argument_values p es) (λ ns. with_values (handed_over decl ns) (λ qs. f ns (first qs))))
-      (λ h. values_keep s k p (argument_values p es) (λ ns. with_values (handed_over decl ns) (λ qs. f ns (first qs))) (λ ns. values_keep s k p (handed_over decl ns) (λ qs. f ns (first qs)) (λ qs. t ns (first qs))))
+    (λ h. values_keep s k p (argument_values p es) (λ ns. with_values (handed_over decl ns) (λ qs. f ns (first qs))) (λ ns. values_keep s k p (handed_over decl ns) (λ qs. f ns (first qs)) (λ qs. t ns (first qs))))
 
 -- ---- sends
 
 sent_slack : (s x n q : ℕ) (r : Proc) (l : Link) → HasSlack (s + 1) r → length r.uses ≤ 15 → IsOpen (s + 1) l → IsItemSlack s (P (at_node (record (with_link r x (after_link l)) { potential = r.potential - q }) n))
 sent_slack s zero n q r l h c o = (record { own = omega (arith, o); uses = weaker_all s r.uses h.uses; fresh = omega (arith, h.fresh); moment = omega (arith, h.moment); spawned = omega (arith, h.spawned); steps = omega (arith, h.steps) }, c)
-sent_slack s (suc x) n q r l h c o =
-    (record { own = weaker_open s r.own h.own; uses = set_all (λ (u : Entry). IsOpen s u.1) (suc x) (after_link l) r.uses (let g : IsOpen s (after_link l) = omega (arith, o) in g) (weaker_all s r.uses h.uses); fresh = omega (arith, h.fresh); moment = omega (arith, h.moment); spawned = omega (arith, h.spawned); steps = omega (arith, h.steps) },
-      omega (arith, c, length-set_key (suc x) (after_link l) r.uses))
+sent_slack s (suc x) n q r l h c o = (
+  record { own = weaker_open s r.own h.own; uses = set_all (λ (u : Entry). IsOpen s u.1) (suc x) (after_link l) r.uses (let g : IsOpen s (after_link l) = omega (arith, o) in g) (weaker_all s r.uses h.uses); fresh = omega (arith, h.fresh); moment = omega (arith, h.moment); spawned = omega (arith, h.spawned); steps = omega (arith, h.steps) },
+  omega (arith, c, length-set_key (suc x) (after_link l) r.uses),
+)
 
 sent_pid : (x n q : ℕ) (r : Proc) (l : Link) → (at_node (record (with_link r x l) { potential = r.potential - q }) n).pid ≡ r.pid
 sent_pid zero n q r l = refl
@@ -163,8 +164,10 @@ puts_on s k p r x b q n None h c i e a f = tt
 puts_on s k p r x b q n (Some l) h c i e a f =
     let o = f l refl in
     if_keep s k p (nat_le q r.potential) (Puts (msg_on l (out x) b r.moment q) (Some (at_node (record (with_link r x (after_link l)) { potential = r.potential - q }) n)))
-      (λ t. (record { link = weaker_open s l o; next = omega (arith, o); carried = a; moment = omega (arith, h.moment) },
-        record { slack = sent_slack s x n q r l h c o; pid = sent_pid x n q r (after_link l) ∙ i; potential = omega (arith, leb-true q r.potential t, e) }))
+    (λ t. (
+      record { link = weaker_open s l o; next = omega (arith, o); carried = a; moment = omega (arith, h.moment) },
+      record { slack = sent_slack s x n q r l h c o; pid = sent_pid x n q r (after_link l) ∙ i; potential = omega (arith, leb-true q r.potential t, e) },
+    ))
 
 puts_keep : (s k : ℕ) (p r : Proc) (x : ℕ) (b : Body) (q n : ℕ) → HasSlack (s + 1) r → length r.uses ≤ 15 → r.pid ≡ p.pid → r.potential ≡ p.potential → All (IsOpen s) (carried b) → DeedKeeps s k p (puts r x b q n)
 puts_keep s k p r x b q n h c i e a = puts_on s k p r x b q n (link_of r x) h c i e a (λ l f. link_open (s + 1) r x l h f)
@@ -211,13 +214,14 @@ made_one s k p d decl r n vs q b h c u e f =
 makes_keep : (s k : ℕ) (p : Proc) (d : ℕ) (decl : Decl) (r : List Link × List Entry) (n : ℕ) (vs : List ℕ) (q : ℕ) → s + 16 < 2 ^ 32 → HasSlack (s + 1) p → length p.uses ≤ 15 → Pulls (s + 1) p.uses r → DeedKeeps s k p (makes k p d decl r n vs q)
 makes_keep s k p d decl r n vs q b h c u =
     if_keep s k p (nat_le q p.potential && has_room r.1) (Makes (process_at k decl vs r.0 p.moment q) (parent_after k p r.1 q n) d)
-      (λ t. let e = and_both (nat_le q p.potential) (has_room r.1) t in made_one s k p d decl r n vs q b h c u (leb-true q p.potential e.0) (ltb-true (length r.1) 15 e.1))
+    (λ t. let e = and_both (nat_le q p.potential) (has_room r.1) t in made_one s k p d decl r n vs q b h c u (leb-true q p.potential e.0) (ltb-true (length r.1) 15 e.1))
 
 turns_keep : (s k : ℕ) (p : Proc) (d : ℕ) (decl : Decl) (ls : List Link) (us : List Entry) (vs : List ℕ) → s + 16 < 2 ^ 32 → HasSlack (s + 1) p → length p.uses ≤ 15 → Pulls (s + 1) p.uses (ls, us) → DeedKeeps s k p (turns p d decl ls us vs)
 turns_keep s k p d decl ls [] vs b h c u = record {
-    slack = (record { own = weaker_open s p.own h.own; uses = numbered_all s 1 ls (weaker_links s ls u.links); fresh = omega (arith, u.count, c, b); moment = omega (arith, h.moment); spawned = omega (arith, h.spawned); steps = omega (arith, h.steps) }, omega (arith, length-numbered 1 ls, u.count, c));
-    pid = refl; potential = omega arith;
-  }
+  slack = (record { own = weaker_open s p.own h.own; uses = numbered_all s 1 ls (weaker_links s ls u.links); fresh = omega (arith, u.count, c, b); moment = omega (arith, h.moment); spawned = omega (arith, h.spawned); steps = omega (arith, h.steps) }, omega (arith, length-numbered 1 ls, u.count, c));
+  pid = refl;
+  potential = omega arith;
+}
 turns_keep s k p d decl ls (v ∷ us) vs b h c u = tt
 
 spawn_keep : (s k : ℕ) (p : Proc) (es : List Linear) (d n : ℕ) (o : Option Decl) (ys : List ℕ) (r : Option (List Link × List Entry)) → s + 16 < 2 ^ 32 → HasSlack (s + 1) p → length p.uses ≤ 15 → pull ys p.uses ≡ r → DeedKeeps s k p (makes_at k p es d n o r)
@@ -235,7 +239,7 @@ call_keep s k p es d (Some decl) ys (Some r) b h c e =
 works_keep : (s k : ℕ) (p : Proc) (n q : ℕ) → HasSlack (s + 1) p → length p.uses ≤ 15 → DeedKeeps s k p (works p n q)
 works_keep s k p n q h c =
     if_keep s k p (nat_le q p.potential) (Works q (at_node (record p { potential = p.potential - q }) n))
-      (λ t. record { slack = (record { own = weaker_open s p.own h.own; uses = weaker_all s p.uses h.uses; fresh = omega (arith, h.fresh); moment = omega (arith, h.moment); spawned = omega (arith, h.spawned); steps = omega (arith, h.steps) }, c); pid = refl; potential = omega (arith, leb-true q p.potential t) })
+    (λ t. record { slack = (record { own = weaker_open s p.own h.own; uses = weaker_all s p.uses h.uses; fresh = omega (arith, h.fresh); moment = omega (arith, h.moment); spawned = omega (arith, h.spawned); steps = omega (arith, h.steps) }, c); pid = refl; potential = omega (arith, leb-true q p.potential t) })
 
 delays_keep : (s k : ℕ) (p : Proc) (n t : ℕ) → HasSlack (s + 1) p → length p.uses ≤ 15 → t < 2 ^ 64 → DeedKeeps s k p (delays p n t)
 delays_keep s k p n t h c b =

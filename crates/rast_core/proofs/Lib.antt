@@ -8,3 +8,7 @@ pub mod DeedBounds
 pub mod TakeBounds
 pub mod StepBounds
 pub mod ConfigLemmas
+pub mod StepPids
+pub mod RunLemmas
+pub mod LookLemmas
+pub mod TurnLemmas

@@ -75,7 +75,7 @@ below_taken g plan items i j p q m l e h k w v =
     let f : Proc → List Item = λ r. take i items ++ (P r ∷ (take j (drop (i + 1) items) ++ drop (j + 1) (drop (i + 1) items))) in
     let b : i + 1 + j < length items = omega (arith, k.within, length-drop (i + 1) items) in
     subst (λ (o : Option Cut). Decides (take_client (run_code g plan) (take i items) p l o) items i (Do e (Merge i (P q) (i + 1 + j)) None)) (sym k.is)
-      (subst (λ (o : Option Proc). Decides (take_it f m o) items i (Do e (Merge i (P q) (i + 1 + j)) None)) (sym w) (v, later_gone items i j (P q) h, (h, b), refl))
+    (subst (λ (o : Option Proc). Decides (take_it f m o) items i (Do e (Merge i (P q) (i + 1 + j)) None)) (sym w) (v, later_gone items i j (P q) h, (h, b), refl))
 
 -- ---- a take of a message above
 
@@ -95,7 +95,7 @@ above_taken g plan items i j p q m l e h k w v =
     let f : Proc → List Item = λ r. take j (take i items) ++ (P r ∷ (drop (j + 1) (take i items) ++ drop (i + 1) items)) in
     let b : j < i = omega (arith, k.within, length-take i items) in
     subst (λ (o : Option Cut). Decides (take_provider (run_code g plan) p l o (drop (i + 1) items)) items i (Do e (Merge j (P q) i) None)) (sym k.is)
-      (subst (λ (o : Option Proc). Decides (take_it f m o) items i (Do e (Merge j (P q) i) None)) (sym w) (v, earlier_gone items i j (P q) h b, (omega (arith, b, h), h), refl))
+    (subst (λ (o : Option Proc). Decides (take_it f m o) items i (Do e (Merge j (P q) i) None)) (sym w) (v, earlier_gone items i j (P q) h b, (omega (arith, b, h), h), refl))
 
 -- ---- a forward
 
@@ -105,7 +105,7 @@ handed_below items i j p (P q) other wait d h b s = subst (λ (y : Decision). De
 handed_below items i j p (M m) other wait d h b s =
     let c : i + 1 + j < length items = omega (arith, b, length-drop (i + 1) items) in
     subst (λ (y : Decision). Decides (Ready (Move p.pid m.link p.own m.body m.moment) (take i items ++ (take j (drop (i + 1) items) ++ (M (moved m p.own) ∷ drop (j + 1) (drop (i + 1) items))))) items i y) (sym s)
-      (refl, here_gone items i j (M (moved m p.own)) h b, (c, h), refl)
+    (refl, here_gone items i j (M (moved m p.own)) h b, (c, h), refl)
 
 pub below_moved : (items : List Item) (i j : ℕ) (p : Proc) (x : Item) (other wait : Link) (d : Decision) → i < length items → Met (is_msg other Client) (drop (i + 1) items) j x → HandsOn x (i + 1 + j) i p.own p.pid d →
     Decides (move_client (take i items) p other wait (cut (is_msg other Client) (drop (i + 1) items)) (drop (i + 1) items)) items i d
@@ -117,7 +117,7 @@ handed_above : (items : List Item) (i j : ℕ) (p : Proc) (x : Item) (other wait
 handed_above items i j p (P q) other wait d h b s = subst (λ (y : Decision). Decides Stuck items i y) (sym s) tt
 handed_above items i j p (M m) other wait d h b s =
     subst (λ (y : Decision). Decides (Ready (Move p.pid m.link other m.body m.moment) (take j (take i items) ++ (M (moved m other) ∷ (drop (j + 1) (take i items) ++ drop (i + 1) items)))) items i y) (sym s)
-      (refl, earlier_gone items i j (M (moved m other)) h b, (omega (arith, b, h), h), refl)
+    (refl, earlier_gone items i j (M (moved m other)) h b, (omega (arith, b, h), h), refl)
 
 pub above_moved : (items : List Item) (i j : ℕ) (p : Proc) (x : Item) (other wait : Link) (d : Decision) → i < length items → Met (is_msg p.own Provider) (take i items) j x → HandsOn x j i other p.pid d →
     Decides (move_provider p other wait (cut (is_msg p.own Provider) (take i items)) (drop (i + 1) items)) items i d

@@ -49,13 +49,13 @@ all_first : (Q : Item → Type 0) (before between after : List Item) (x y z : It
 all_first Q before between after x y z a h =
     let r = All-tail Q x (between ++ (y ∷ after)) (all_right Q before (x ∷ (between ++ (y ∷ after))) a) in
     All-append Q before (z ∷ (between ++ after)) (all_left Q before (x ∷ (between ++ (y ∷ after))) a)
-      (All-cons Q z (between ++ after) h (All-append Q between after (all_left Q between (y ∷ after) r) (All-tail Q y after (all_right Q between (y ∷ after) r))))
+    (All-cons Q z (between ++ after) h (All-append Q between after (all_left Q between (y ∷ after) r) (All-tail Q y after (all_right Q between (y ∷ after) r))))
 
 all_second : (Q : Item → Type 0) (before between after : List Item) (x y z : Item) → All Q (before ++ (x ∷ (between ++ (y ∷ after)))) → Q z → All Q (before ++ (between ++ (z ∷ after)))
 all_second Q before between after x y z a h =
     let r = All-tail Q x (between ++ (y ∷ after)) (all_right Q before (x ∷ (between ++ (y ∷ after))) a) in
     All-append Q before (between ++ (z ∷ after)) (all_left Q before (x ∷ (between ++ (y ∷ after))) a)
-      (All-append Q between (z ∷ after) (all_left Q between (y ∷ after) r) (All-cons Q z after h (All-tail Q y after (all_right Q between (y ∷ after) r))))
+    (All-append Q between (z ∷ after) (all_left Q between (y ∷ after) r) (All-cons Q z after h (All-tail Q y after (all_right Q between (y ∷ after) r))))
 
 weight_first : (w : Item → ℕ) (before between after : List Item) (x y z : Item) → w z ≤ w x + w y → total w (before ++ (z ∷ (between ++ after))) ≤ total w (before ++ (x ∷ (between ++ (y ∷ after))))
 weight_first w before between after x y z h = omega (arith, total-append w before (z ∷ (between ++ after)), total-append w between after, total-append w before (x ∷ (between ++ (y ∷ after))), total-append w between (y ∷ after), h)
@@ -91,55 +91,55 @@ same_number j p q e = ap (λ (i : Pid). cond (same_pid i j) 1 0) e
 -- one process goes on in its place
 one_goes : (s k : ℕ) (pid : Pid) (before after : List Item) (p q : Proc) (e : Event) → All (IsItemSlack (s + 1)) (before ++ (P p ∷ after)) → Goes s p q (work_by e) → pid_of e ≡ pid → ((j : Pid) → born_as k j e ≡ 0) → StepHolds s k pid (before ++ (P p ∷ after)) (before ++ (P q ∷ after)) e
 one_goes s k pid before after p q e a g h b = record {
-    by = h;
-    each = all_for_one (IsItemSlack s) before (P q ∷ []) after (P p) (weaker_items s (before ++ (P p ∷ after)) a) (All-cons (IsItemSlack s) (P q) [] g.slack (All-nil (IsItemSlack s)));
-    potential = omega (arith, weight_for_one potential_of before (P q ∷ []) after (P p) (work_by e) 0 (omega (arith, g.potential)));
-    numbers = λ j. omega (arith, weight_for_one (numbered_as j) before (P q ∷ []) after (P p) 0 0 (omega (arith, same_number j p q g.pid)), b j);
-  }
+  by = h;
+  each = all_for_one (IsItemSlack s) before (P q ∷ []) after (P p) (weaker_items s (before ++ (P p ∷ after)) a) (All-cons (IsItemSlack s) (P q) [] g.slack (All-nil (IsItemSlack s)));
+  potential = omega (arith, weight_for_one potential_of before (P q ∷ []) after (P p) (work_by e) 0 (omega (arith, g.potential)));
+  numbers = λ j. omega (arith, weight_for_one (numbered_as j) before (P q ∷ []) after (P p) 0 0 (omega (arith, same_number j p q g.pid)), b j);
+}
 
 put_holds : (s k : ℕ) (pid : Pid) (before after : List Item) (p : Proc) (m : Msg) (rest : Option Proc) → p.pid ≡ pid → All (IsItemSlack (s + 1)) (before ++ (P p ∷ after)) → DeedKeeps s k p (Puts m rest) →
     StepHolds s k pid (before ++ (P p ∷ after)) (before ++ (put_beside m.toward m (rest_items rest) ++ after)) (Send p.pid m.link m.body m.moment m.potential)
 put_holds s k pid before after p m None i a d = record {
-    by = i;
-    each = all_for_one (IsItemSlack s) before (put_beside m.toward m []) after (P p) (weaker_items s (before ++ (P p ∷ after)) a) (beside_all (IsItemSlack s) m.toward m [] d.0 (All-nil (IsItemSlack s)));
-    potential = omega (arith, weight_for_one potential_of before (put_beside m.toward m []) after (P p) 0 0 (omega (arith, beside_total potential_of m.toward m [], d.1)));
-    numbers = λ j. omega (arith, weight_for_one (numbered_as j) before (put_beside m.toward m []) after (P p) 0 0 (omega (arith, beside_total (numbered_as j) m.toward m [])));
-  }
+  by = i;
+  each = all_for_one (IsItemSlack s) before (put_beside m.toward m []) after (P p) (weaker_items s (before ++ (P p ∷ after)) a) (beside_all (IsItemSlack s) m.toward m [] d.0 (All-nil (IsItemSlack s)));
+  potential = omega (arith, weight_for_one potential_of before (put_beside m.toward m []) after (P p) 0 0 (omega (arith, beside_total potential_of m.toward m [], d.1)));
+  numbers = λ j. omega (arith, weight_for_one (numbered_as j) before (put_beside m.toward m []) after (P p) 0 0 (omega (arith, beside_total (numbered_as j) m.toward m [])));
+}
 put_holds s k pid before after p m (Some q) i a d = record {
-    by = i;
-    each = all_for_one (IsItemSlack s) before (put_beside m.toward m (P q ∷ [])) after (P p) (weaker_items s (before ++ (P p ∷ after)) a) (beside_all (IsItemSlack s) m.toward m (P q ∷ []) d.0 (All-cons (IsItemSlack s) (P q) [] d.1.slack (All-nil (IsItemSlack s))));
-    potential = omega (arith, weight_for_one potential_of before (put_beside m.toward m (P q ∷ [])) after (P p) 0 0 (omega (arith, beside_total potential_of m.toward m (P q ∷ []), d.1.potential)));
-    numbers = λ j. omega (arith, weight_for_one (numbered_as j) before (put_beside m.toward m (P q ∷ [])) after (P p) 0 0 (omega (arith, beside_total (numbered_as j) m.toward m (P q ∷ []), same_number j p q d.1.pid)));
-  }
+  by = i;
+  each = all_for_one (IsItemSlack s) before (put_beside m.toward m (P q ∷ [])) after (P p) (weaker_items s (before ++ (P p ∷ after)) a) (beside_all (IsItemSlack s) m.toward m (P q ∷ []) d.0 (All-cons (IsItemSlack s) (P q) [] d.1.slack (All-nil (IsItemSlack s))));
+  potential = omega (arith, weight_for_one potential_of before (put_beside m.toward m (P q ∷ [])) after (P p) 0 0 (omega (arith, beside_total potential_of m.toward m (P q ∷ []), d.1.potential)));
+  numbers = λ j. omega (arith, weight_for_one (numbered_as j) before (put_beside m.toward m (P q ∷ [])) after (P p) 0 0 (omega (arith, beside_total (numbered_as j) m.toward m (P q ∷ []), same_number j p q d.1.pid)));
+}
 
 make_holds : (s k : ℕ) (pid : Pid) (before after : List Item) (p child rest : Proc) (d : ℕ) → p.pid ≡ pid → All (IsItemSlack (s + 1)) (before ++ (P p ∷ after)) → MakesOne s k p child rest →
     StepHolds s k pid (before ++ (P p ∷ after)) (before ++ (P rest ∷ P child ∷ after)) (Spawn p.pid child.pid d rest.moment)
 make_holds s k pid before after p child rest d i a h = record {
-    by = i;
-    each = all_for_one (IsItemSlack s) before (P rest ∷ P child ∷ []) after (P p) (weaker_items s (before ++ (P p ∷ after)) a) (All-cons (IsItemSlack s) (P rest) (P child ∷ []) h.goes.slack (All-cons (IsItemSlack s) (P child) [] h.child_slack (All-nil (IsItemSlack s))));
-    potential = omega (arith, weight_for_one potential_of before (P rest ∷ P child ∷ []) after (P p) 0 0 (omega (arith, h.goes.potential)));
-    numbers = λ j. omega (arith, weight_for_one (numbered_as j) before (P rest ∷ P child ∷ []) after (P p) 0 (cond (same_pid (pid_at k) j) 1 0) (omega (arith, same_number j p rest h.goes.pid, ap {B = ℕ} (λ (n : Pid). cond (same_pid n j) 1 0) h.child_pid)));
-  }
+  by = i;
+  each = all_for_one (IsItemSlack s) before (P rest ∷ P child ∷ []) after (P p) (weaker_items s (before ++ (P p ∷ after)) a) (All-cons (IsItemSlack s) (P rest) (P child ∷ []) h.goes.slack (All-cons (IsItemSlack s) (P child) [] h.child_slack (All-nil (IsItemSlack s))));
+  potential = omega (arith, weight_for_one potential_of before (P rest ∷ P child ∷ []) after (P p) 0 0 (omega (arith, h.goes.potential)));
+  numbers = λ j. omega (arith, weight_for_one (numbered_as j) before (P rest ∷ P child ∷ []) after (P p) 0 (cond (same_pid (pid_at k) j) 1 0) (omega (arith, same_number j p rest h.goes.pid, ap {B = ℕ} (λ (n : Pid). cond (same_pid n j) 1 0) h.child_pid)));
+}
 
 -- ---- with a message
 
 first_taken : (s k : ℕ) (pid : Pid) (before between after : List Item) (p q : Proc) (m : Msg) → q.pid ≡ pid → All (IsItemSlack (s + 1)) (before ++ (P p ∷ (between ++ (M m ∷ after)))) → Took s p q m →
     StepHolds s k pid (before ++ (P p ∷ (between ++ (M m ∷ after)))) (before ++ (P q ∷ (between ++ after))) (Take q.pid m.link m.body q.moment)
 first_taken s k pid before between after p q m i a t = record {
-    by = i;
-    each = all_first (IsItemSlack s) before between after (P p) (M m) (P q) (weaker_items s (before ++ (P p ∷ (between ++ (M m ∷ after)))) a) t.slack;
-    potential = omega (arith, weight_first potential_of before between after (P p) (M m) (P q) (omega (arith, t.potential)));
-    numbers = λ j. omega (arith, weight_first (numbered_as j) before between after (P p) (M m) (P q) (omega (arith, same_number j p q t.pid)));
-  }
+  by = i;
+  each = all_first (IsItemSlack s) before between after (P p) (M m) (P q) (weaker_items s (before ++ (P p ∷ (between ++ (M m ∷ after)))) a) t.slack;
+  potential = omega (arith, weight_first potential_of before between after (P p) (M m) (P q) (omega (arith, t.potential)));
+  numbers = λ j. omega (arith, weight_first (numbered_as j) before between after (P p) (M m) (P q) (omega (arith, same_number j p q t.pid)));
+}
 
 second_taken : (s k : ℕ) (pid : Pid) (before between after : List Item) (p q : Proc) (m : Msg) → q.pid ≡ pid → All (IsItemSlack (s + 1)) (before ++ (M m ∷ (between ++ (P p ∷ after)))) → Took s p q m →
     StepHolds s k pid (before ++ (M m ∷ (between ++ (P p ∷ after)))) (before ++ (P q ∷ (between ++ after))) (Take q.pid m.link m.body q.moment)
 second_taken s k pid before between after p q m i a t = record {
-    by = i;
-    each = all_first (IsItemSlack s) before between after (M m) (P p) (P q) (weaker_items s (before ++ (M m ∷ (between ++ (P p ∷ after)))) a) t.slack;
-    potential = omega (arith, weight_first potential_of before between after (M m) (P p) (P q) (omega (arith, t.potential)));
-    numbers = λ j. omega (arith, weight_first (numbered_as j) before between after (M m) (P p) (P q) (omega (arith, same_number j p q t.pid)));
-  }
+  by = i;
+  each = all_first (IsItemSlack s) before between after (M m) (P p) (P q) (weaker_items s (before ++ (M m ∷ (between ++ (P p ∷ after)))) a) t.slack;
+  potential = omega (arith, weight_first potential_of before between after (M m) (P p) (P q) (omega (arith, t.potential)));
+  numbers = λ j. omega (arith, weight_first (numbered_as j) before between after (M m) (P p) (P q) (omega (arith, same_number j p q t.pid)));
+}
 
 next_open : (s : ℕ) (b : Body) (to next : Link) → IsOpen s to → IsOpen s next → IsOpen s (moved_next b to next)
 next_open s End to next h k = h

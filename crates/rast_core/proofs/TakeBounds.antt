@@ -43,15 +43,23 @@ if_some s p r q false e k = cc
 
 channel_keeps : (s n : ℕ) (p : Proc) (l : Link) → IsItemSlack (s + 1) (P p) → IsOpen (s + 1) l → has_room p.uses ≡ true → Kept s p (at_node (with_channel p l) n)
 channel_keeps s n p l h o r = record {
-    slack = (record { own = weaker_open s p.own h.0.own; uses = All-push (λ (u : Entry). IsOpen s u.1) p.uses (p.fresh, l) (weaker_all s p.uses h.0.uses) (weaker_open s l o); fresh = omega (arith, h.0.fresh); moment = omega (arith, h.0.moment); spawned = omega (arith, h.0.spawned); steps = omega (arith, h.0.steps) },
-      omega (arith, length_push p.uses (p.fresh, l), ltb-true (length p.uses) 15 r));
-    pid = refl; potential = refl }
+  slack = (
+    record { own = weaker_open s p.own h.0.own; uses = All-push (λ (u : Entry). IsOpen s u.1) p.uses (p.fresh, l) (weaker_all s p.uses h.0.uses) (weaker_open s l o); fresh = omega (arith, h.0.fresh); moment = omega (arith, h.0.moment); spawned = omega (arith, h.0.spawned); steps = omega (arith, h.0.steps) },
+    omega (arith, length_push p.uses (p.fresh, l), ltb-true (length p.uses) 15 r),
+  );
+  pid = refl;
+  potential = refl;
+}
 
 end_keeps : (s x n : ℕ) (p : Proc) → IsItemSlack (s + 1) (P p) → Kept s p (at_node (less_channel p x) n)
 end_keeps s x n p h = record {
-    slack = (record { own = weaker_open s p.own h.0.own; uses = dropped_all (λ (u : Entry). IsOpen s u.1) x p.uses (weaker_all s p.uses h.0.uses); fresh = omega (arith, h.0.fresh); moment = omega (arith, h.0.moment); spawned = omega (arith, h.0.spawned); steps = omega (arith, h.0.steps) },
-      omega (arith, length-drop_key x p.uses, h.1));
-    pid = refl; potential = refl }
+  slack = (
+    record { own = weaker_open s p.own h.0.own; uses = dropped_all (λ (u : Entry). IsOpen s u.1) x p.uses (weaker_all s p.uses h.0.uses); fresh = omega (arith, h.0.fresh); moment = omega (arith, h.0.moment); spawned = omega (arith, h.0.spawned); steps = omega (arith, h.0.steps) },
+    omega (arith, length-drop_key x p.uses, h.1),
+  );
+  pid = refl;
+  potential = refl;
+}
 
 number_keeps : (s n i : ℕ) (p : Proc) → IsItemSlack (s + 1) (P p) → Kept s p (at_node (record p { values = p.values ++ i ∷ [] }) n)
 number_keeps s n i p h = record { slack = (record { own = weaker_open s p.own h.0.own; uses = weaker_all s p.uses h.0.uses; fresh = omega (arith, h.0.fresh); moment = omega (arith, h.0.moment); spawned = omega (arith, h.0.spawned); steps = omega (arith, h.0.steps) }, h.1); pid = refl; potential = refl }

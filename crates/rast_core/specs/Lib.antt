@@ -3,3 +3,4 @@ pub mod Shown
 pub mod Promises
 pub mod Edits
 pub mod Bounds
+pub mod Looks

@@ -1,12 +1,12 @@
 -- What the calls promise that begin, look at and change configurations.
-use Rattle.std.specs.Prelude.{◌≡◌, ℕ, ℤ, pos, ◌+◌, ◌≤◌, List, [], ◌∷◌, ◌++◌, map, length, take, Option, Some, None, slice_get, IsSome}
+use Rattle.std.specs.Prelude.{◌≡◌, false, ℕ, ℤ, pos, ◌+◌, ◌≤◌, List, [], ◌∷◌, ◌++◌, map, length, take, Option, Some, None, slice_get, IsSome}
 use Rattle.rast_terms.specs.declared.program.Program.{Program}
 use Rattle.rast_rules.specs.declared.judgement.Plan.{Plan}
 use Rattle.rast_core.specs.Words.{Pid, Item, P, Proc, Event}
 use Rattle.rast_items.specs.Deeds.{Code}
 use Rattle.rast_items.specs.Step.{Next as Does, Ready as DReady, Waits as DWaits, Halted as DHalted, Ended as DEnded, Stuck as DStuck}
 use Rattle.rast_items.specs.Run.{State, Birth, IsRun, start_of, replay, step_of, pid_of, born}
-use Rattle.rast_core.specs.Shown.{Shown, IsReplay, origin, run_code, next_of, outcome}
+use Rattle.rast_core.specs.Shown.{Shown, IsReplay, origin, run_code, next_of, some_ready, outcome}
 use Rattle.rast_core.specs.declared.answer.Next.{Next}
 use Rattle.rast_core.specs.declared.answer.Next.TheVariants.{Ready, Waits, Halted, Ended, Stuck}
 use Rattle.rast_core.specs.declared.decision.Decision.{Decision}
@@ -61,6 +61,11 @@ Leaves DStuck old r new = (r ≡ Stuck) × (new ≡ old)
 
 abbrev pub StepIs : Program → Shown → Pid → Next → Shown → Type 0
 StepIs g old pid r new = Leaves (next_of g old pid) old r new
+
+-- one more event of some process; or nothing changed, and no process has an event
+abbrev pub IsTurn : Program → Shown → Option Event → Shown → Type 0
+IsTurn g old None new = (new ≡ old) × (some_ready g old old.items ≡ false)
+IsTurn g old (Some e) new = (pid : Pid) × StepIs g old pid (Ready e) new
 
 -- a run to its end, or to its budget
 pub record IsFullRun (g : Program) (plan : Plan) (budget : ℕ) (v : Shown) (es : List Event) : Type 0 where

@@ -1,7 +1,12 @@
 // A configuration as a plain list.
 ghost use Rattle.std.specs.Prelude.{◌≡◌, ◌≤◌, ◌<◌, ◌+◌, ◌++◌, IfOk, MatchOption, None, Some, slice_get, length, option_to_list};
 ghost use Rattle.rast_items.specs.Step.{Ended, cut, is_proc};
-ghost use Rattle.rast_core.specs.Shown.{next_of};
+ghost use Rattle.rast_items.specs.Deeds.{deed};
+ghost use Rattle.rast_items.specs.Ends.{is_poised, waits_for_client};
+ghost use Rattle.rast_items.specs.Slack.{HasSlack};
+ghost use Rattle.rast_core.specs.Words.{Item};
+ghost use Rattle.rast_core.specs.Shown.{next_of, code_of, run_code};
+ghost use Rattle.rast_core.specs.Looks.{IsNextAt};
 ghost use Rattle.rast_core.specs.Edits.{Decides, IsCutAt, IsStepEdit, edited};
 ghost use Rattle.rast_core.specs.Promises.{CanStart, IsStart, EnabledIs, StepIs, IsTold};
 
@@ -12,7 +17,7 @@ use crate::edit::{apply, note};
 use crate::find::{find_process, is_process};
 use crate::main_process::begin;
 use crate::origin::Origin;
-use rast_items::{Item, Pid, Proc};
+use rast_items::{Action, Item, Pid, Proc, Side, next_action};
 use rast_rules::Plan;
 use rast_terms::Program;
 use std::alloc::{AllocError, Global};
@@ -123,20 +128,52 @@ impl Config {
         ensures { MatchOption result (next_of program.now self.now pid ≡ Ended) (λ r. (r.0 < length self.now.items) × Decides (next_of program.now self.now pid) self.now.items r.0 r.1) }
     {
         let place = self.place_of(pid)?;
-        match &self.items[place] {
+        match self.item_at(place) {
             Item::Proc(proc) => Some((place, self.decided_at(program, place, proc))),
             Item::Msg(_) => unreachable!(),
         }
     }
 
+    /// What the process at a place does next; nothing of a message.
+    pub(crate) fn next_at(&self, program: &Program, place: usize) -> Option<(Pid, Next)>
+        requires { place < length self.now.items }
+        ensures { IsNextAt program.now self.now (slice_get self.now.items place) result }
+    {
+        match self.item_at(place) {
+            Item::Proc(proc) => Some((proc.pid, told(self.decided_at(program, place, proc)))),
+            Item::Msg(_) => None,
+        }
+    }
+
+    /// Whether the item at a place waits for a client.
+    pub(crate) fn poised_at(&self, program: &Program, place: usize) -> bool
+        requires { place < length self.now.items }
+        ensures { (item : Item) → slice_get self.now.items place ≡ Some item → result ≡ is_poised (code_of program.now self.now) (length self.now.origins) item }
+    {
+        match self.item_at(place) {
+            Item::Proc(proc) => {
+                let made = self.origins.as_slice().len() as u32;
+                waits_for_client(program, &self.plan, made, proc)
+            }
+            Item::Msg(msg) => msg.toward.is(Side::Client),
+        }
+    }
+
     /// What is to be done for the process at its place.
     fn decided_at(&self, program: &Program, place: usize, proc: &Proc) -> Decision
-        requires here { IsCutAt (is_proc proc.now.pid) self.now.items place }
-        requires at { slice_get self.now.items place ≡ Some (Item.Proc proc.now) }
+        requires { slice_get self.now.items place ≡ Some (Item.Proc proc.now) }
         ensures { Decides (next_of program.now self.now proc.now.pid) self.now.items place result }
     {
-        let made = self.origins.len() as u32;
+        let made = self.origins.as_slice().len() as u32;
         decide(program, &self.plan, made, &self.items, place, proc)
+    }
+
+    /// The item at a place.
+    fn item_at(&self, place: usize) -> &Item
+        requires { place < length self.now.items }
+        ensures { slice_get self.now.items place ≡ Some result.now }
+    {
+        &self.items[place]
     }
 
     /// The place of a process.
@@ -167,8 +204,22 @@ impl Config {
     }
 }
 
+/// Whether a process waits for its client.
+fn waits_for_client(program: &Program, plan: &Plan, made: u32, proc: &Proc) -> bool
+    requires { HasSlack 1 proc.now }
+    ensures { result ≡ waits_for_client proc.now (deed (run_code program.now plan.now) made proc.now) }
+{
+    let positive = plan.positive.as_slice();
+    let paid = plan.paid.as_slice();
+    match next_action(program, positive, paid, made, proc) {
+        Action::Take { link, side } => link.is(proc.own()) && side.is(Side::Provider),
+        Action::Move { wait, .. } => wait.is(proc.own()),
+        _ => false,
+    }
+}
+
 /// What a decision says to those who asked.
-fn told(decision: Decision) -> Next
+pub(crate) fn told(decision: Decision) -> Next
     ensures { IsTold decision result }
 {
     match decision {

@@ -10,7 +10,11 @@ mod find;
 mod main_process;
 mod messages;
 mod origin;
+mod outcome;
+mod schedule;
+mod turns;
 
 pub use answer::{Next, Outcome, ReplayErr};
 pub use config::Config;
 pub use origin::Origin;
+pub use turns::run;

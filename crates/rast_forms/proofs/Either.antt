@@ -7,11 +7,11 @@ use Rattle.rast_forms.proofs.Sets.{or_left, or_right, is_in-append, starts-appen
 use Rattle.rast_forms.proofs.Forms.{Form, spell, Comes, and_then, Begins, IsDeepAt, Found, Fails, Right, Exact, goes_on_both, goes_on_second, ends_before}
 use Rattle.rast_forms.proofs.Sequence.{or_first, or_second}
 
-abbrev alt_mark : {X Y : Type 0} → Form X → Form Y → X ⊎ Y → List Mark
+abbrev pub alt_mark : {X Y : Type 0} → Form X → Form Y → X ⊎ Y → List Mark
 alt_mark P Q (inl x) = P.mark x
 alt_mark P Q (inr y) = Q.mark y
 
-abbrev alt_fits : {X Y : Type 0} → Form X → Form Y → X ⊎ Y → Bool
+abbrev pub alt_fits : {X Y : Type 0} → Form X → Form Y → X ⊎ Y → Bool
 alt_fits P Q (inl x) = P.fits x
 alt_fits P Q (inr y) = Q.fits y
 
@@ -36,11 +36,11 @@ module _ {X Y : Type 0} (bar : List ℕ) (d : ℕ) (P : Form X) (Q : Form Y) (p 
       Comes d (highest (alt_mark P Q s)) s r (alt_read P.first p q (bare (alt_mark P Q s) ++ r))
   alt_complete (inl x) r f g = rw (starts_true P.first P.is_empty (spell P x) r solid (E.begins x f)) (
       and_then d (highest (P.mark x)) (highest (P.mark x)) x r (inl x) r (p (spell P x ++ r)) _ (omega arith)
-        (E.complete x r f (or_left _ _ (sym (starts-append P.goes_on _ r) ∙ g))) (inl refl))
+      (E.complete x r f (or_left _ _ (sym (starts-append P.goes_on _ r) ∙ g))) (inl refl))
   alt_complete (inr y) r f g = let h : starts (goes_on_both P.first Q.is_empty Q.goes_on) r ≡ false = or_right (starts P.goes_on r) _ (sym (starts-append P.goes_on _ r) ∙ g) in
       rw (ends_before P.first Q.first Q.is_empty Q.goes_on (spell Q y) r apart (F.begins y f) h) (
       and_then d (highest (Q.mark y)) (highest (Q.mark y)) y r (inr y) r (q (spell Q y ++ r)) _ (omega arith)
-        (F.complete y r f (goes_on_second P.first Q.is_empty Q.goes_on r h)) (inl refl))
+      (F.complete y r f (goes_on_second P.first Q.is_empty Q.goes_on r h)) (inl refl))
 
   -- which of the two it is stays, whatever stands behind the token after it
   stays : (ts a u : List Word) (z : Word) (v w r : List Word) (b : Bool) → ts ≡ a ++ r → r ≡ u ++ z ∷ v → starts P.first ts ≡ b → starts P.first (a ++ (u ++ z ∷ w)) ≡ b

@@ -6,3 +6,8 @@ pub mod One
 pub mod Either
 pub mod Many
 pub mod Shapes
+pub mod Turns
+pub mod Between
+pub mod Guarded
+pub mod Ahead
+pub mod Chain

@@ -28,9 +28,9 @@ pub highest_starred_lt : (ms : List Mark) (d : ℕ) → d < highest ms → suc d
 highest_starred_lt [] d h = absurd (omega arith)
 highest_starred_lt (m ∷ ms) d h = at (cases_lt d (highest ms)) (λ k. highest_starred_lt ms d k)
   where
-  at : (d < highest ms) ⊎ (highest ms ≤ d) → (d < highest ms → suc d < highest (starred ms)) → suc d < max (suc m.open_at) (highest (starred ms))
-  at (inl k) f = let i : suc d < highest (starred ms) = f k in omega arith
-  at (inr k) f = omega arith
+    at : (d < highest ms) ⊎ (highest ms ≤ d) → (d < highest ms → suc d < highest (starred ms)) → suc d < max (suc m.open_at) (highest (starred ms))
+    at (inl k) f = let i : suc d < highest (starred ms) = f k in omega arith
+    at (inr k) f = omega arith
 
 pub joined-append : (xs ys : List (List Mark)) → joined (xs ++ ys) ≡ joined xs ++ joined ys
 joined-append [] ys = refl
@@ -41,23 +41,23 @@ joined-append (x ∷ xs) ys = ap (λ z. x ++ z) (joined-append xs ys) ∙ sym (a
 pub count_le : (bar : List ℕ) (m : Mark) (next : List Word) → count bar m next ≤ m.open_at
 count_le bar m next = at (m.in_formula && starts bar next)
   where
-  at : (b : Bool) → cond b (m.open_at - 1) m.open_at ≤ m.open_at
-  at true = omega arith
-  at false = omega arith
+    at : (b : Bool) → cond b (m.open_at - 1) m.open_at ≤ m.open_at
+    at true = omega arith
+    at false = omega arith
 
 pub count_more_le : (bar : List ℕ) (m : Mark) (next : List Word) (d : ℕ) → count bar m next ≤ d → count bar (one_more m) next ≤ suc d
 count_more_le bar m next d h = at (m.in_formula && starts bar next) h
   where
-  at : (b : Bool) → cond b (m.open_at - 1) m.open_at ≤ d → cond b (suc m.open_at - 1) (suc m.open_at) ≤ suc d
-  at true h = omega arith
-  at false h = omega arith
+    at : (b : Bool) → cond b (m.open_at - 1) m.open_at ≤ d → cond b (suc m.open_at - 1) (suc m.open_at) ≤ suc d
+    at true h = omega arith
+    at false h = omega arith
 
 pub count_more_lt : (bar : List ℕ) (m : Mark) (next : List Word) (d : ℕ) → d < count bar m next → suc d < count bar (one_more m) next
 count_more_lt bar m next d h = at (m.in_formula && starts bar next) h
   where
-  at : (b : Bool) → d < cond b (m.open_at - 1) m.open_at → suc d < cond b (suc m.open_at - 1) (suc m.open_at)
-  at true h = omega arith
-  at false h = omega arith
+    at : (b : Bool) → d < cond b (m.open_at - 1) m.open_at → suc d < cond b (suc m.open_at - 1) (suc m.open_at)
+    at true h = omega arith
+    at false h = omega arith
 
 pub shallow_more : (bar : List ℕ) (d : ℕ) (ms : List Mark) (rest : List Word) → IsShallow bar d ms rest → IsShallow bar (suc d) (starred ms) rest
 shallow_more bar d [] rest h = tt

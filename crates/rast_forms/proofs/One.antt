@@ -41,7 +41,17 @@ module _ {X : Type 0} (bar : List ℕ) (d : ℕ) (get : Word → Option X) (put 
 
   one_sound : (ts : List Word) → Right bar d (one put fits first some) (one_read get) ts (one_read get ts)
   one_sound [] = record {
-    used = []; split = refl; local = λ s y v w e. absurd (cc); tree = some; fits = some_fits; seen = []; more = put some ∷ []; seen_is = refl; viable = refl; shallow = tt; deep = tt;
+    used = [];
+    split = refl;
+    local = λ s y v w e. absurd (cc);
+    tree = some;
+    fits = some_fits;
+    seen = [];
+    more = put some ∷ [];
+    seen_is = refl;
+    viable = refl;
+    shallow = tt;
+    deep = tt;
   }
   one_sound (t ∷ ts) = one_at t ts (get t) refl
 
@@ -53,8 +63,8 @@ module _ {X : Type 0} (bar : List ℕ) (d : ℕ) (get : Word → Option X) (put 
     some_fits = some_fits;
   }
     where
-    inl_done : (x : X) (r : List Word) → fits x ≡ true → Comes d (highest (put x ∷ [])) x r (given (get (put x).word) (put x).word r)
-    inl_done x r f = inl (ap (λ o. given o (put x).word r) (there x f))
+      inl_done : (x : X) (r : List Word) → fits x ≡ true → Comes d (highest (put x ∷ [])) x r (given (get (put x).word) (put x).word r)
+      inl_done x r f = inl (ap (λ o. given o (put x).word r) (there x f))
 
 -- ---- a name, a number, a keyword or symbol
 
@@ -76,9 +86,9 @@ fixed_back k (Name bytes) x e = absurd (cc)
 fixed_back k (Number value) x e = absurd (cc)
 fixed_back k (Fixed which) x e = at (which == k) refl e
   where
-  at : (b : Bool) → (which == k) ≡ b → cond b (Some tt) None ≡ Some x → (Fixed which ≡ Fixed k) × (true ≡ true)
-  at true f g = (ap Fixed (eqb-true which k f), refl)
-  at false f g = absurd (cc)
+    at : (b : Bool) → (which == k) ≡ b → cond b (Some tt) None ≡ Some x → (Fixed which ≡ Fixed k) × (true ≡ true)
+    at true f g = (ap Fixed (eqb-true which k f), refl)
+    at false f g = absurd (cc)
 
 fixed_begins : (k : ℕ) → is_in (suc (suc k) ∷ []) (suc (suc k)) ≡ true
 fixed_begins k = rw (eq-eqb (suc (suc k)) (suc (suc k)) refl) refl

@@ -41,11 +41,11 @@ module _ {X Y : Type 0} (bar : List ℕ) (d : ℕ) (P : Form X) (Q : Form Y) (p 
       Comes d (highest ((seq P Q).mark s)) s r (seq_read p q (spell (seq P Q) s ++ r))
   seq_complete (x, y) r f g = rw (bare_split (P.mark x) (Q.mark y) r) (
       and_then d (highest (P.mark x)) (highest (P.mark x ++ Q.mark y)) x (spell Q y ++ r) (x, y) r (p (spell P x ++ (spell Q y ++ r))) _
-        (omega (arith, highest-append (P.mark x) (Q.mark y)))
-        (E.complete x (spell Q y ++ r) (and_left _ _ f) (ends_before P.goes_on Q.first Q.is_empty Q.goes_on (spell Q y) r apart (F.begins y (and_right _ _ f)) g))
-        (and_then d (highest (Q.mark y)) (highest (P.mark x ++ Q.mark y)) y r (x, y) r (q (spell Q y ++ r)) _
-          (omega (arith, highest-append (P.mark x) (Q.mark y)))
-          (F.complete y r (and_right _ _ f) (goes_on_second P.goes_on Q.is_empty Q.goes_on r g)) (inl refl)))
+      (omega (arith, highest-append (P.mark x) (Q.mark y)))
+      (E.complete x (spell Q y ++ r) (and_left _ _ f) (ends_before P.goes_on Q.first Q.is_empty Q.goes_on (spell Q y) r apart (F.begins y (and_right _ _ f)) g))
+      (and_then d (highest (Q.mark y)) (highest (P.mark x ++ Q.mark y)) y r (x, y) r (q (spell Q y ++ r)) _
+      (omega (arith, highest-append (P.mark x) (Q.mark y)))
+      (F.complete y r (and_right _ _ f) (goes_on_second P.goes_on Q.is_empty Q.goes_on r g)) (inl refl)))
 
   seq_second : (ts : List Word) (x : X) (more : List Word) → Found d P p ts x more → (m : Read Y) → Right bar d Q q more m → Right bar d (seq P Q) (seq_read p q) ts (m >>= λ y rest. Done (x, y) rest)
   seq_second ts x more f (Done y r) g = record {
@@ -57,10 +57,10 @@ module _ {X Y : Type 0} (bar : List ℕ) (d : ℕ) (P : Form X) (Q : Form Y) (p 
         ∙ ap (λ m. m >>= λ y rest. Done (x, y) rest) (g.local u z v w e));
   }
     where
-    reads : (u : List Word) (z : Word) (v w : List Word) → r ≡ u ++ z ∷ v → p (spell P x ++ (spell Q y ++ (u ++ z ∷ w))) ≡ Done x (spell Q y ++ (u ++ z ∷ w))
-    reads u z v w e = let h : p (spell P x ++ ((spell Q y ++ u) ++ z ∷ w)) ≡ Done x ((spell Q y ++ u) ++ z ∷ w)
+      reads : (u : List Word) (z : Word) (v w : List Word) → r ≡ u ++ z ∷ v → p (spell P x ++ (spell Q y ++ (u ++ z ∷ w))) ≡ Done x (spell Q y ++ (u ++ z ∷ w))
+      reads u z v w e = let h : p (spell P x ++ ((spell Q y ++ u) ++ z ∷ w)) ≡ Done x ((spell Q y ++ u) ++ z ∷ w)
           = f.local (spell Q y ++ u) z v w (g.split ∙ ap (λ k. spell Q y ++ k) e ∙ sym (append_assoc (spell Q y) u (z ∷ v)))
-        in rw (append_assoc (spell Q y) u (z ∷ w)) at h
+          in rw (append_assoc (spell Q y) u (z ∷ w)) at h
   seq_second ts x more f (Bad why r) g = record {
     used = spell P x ++ g.used;
     split = f.split ∙ ap (λ z. spell P x ++ z) g.split ∙ sym (append_assoc (spell P x) g.used r);

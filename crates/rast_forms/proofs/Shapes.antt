@@ -25,7 +25,7 @@ module _ {X T : Type 0} (bar : List ℕ) (d : ℕ) (P : Form X) (p : Reader X) (
   shape_complete : (t : T) (r : List Word) → G.fits t ≡ true → starts G.goes_on r ≡ false → Comes d (highest (G.mark t)) t r (as_read to p (spell G t ++ r))
   shape_complete t r f g = subst (λ (z : List Mark). Comes d (highest z) t r (as_read to p (bare z ++ r))) (sym (from_mark t f))
       (and_then d (highest (P.mark (from t))) (highest (P.mark (from t))) (from t) r t r (p (spell P (from t) ++ r)) _ (omega arith)
-        (E.complete (from t) r (from_fits t f) (starts_within P.goes_on G.goes_on r goes_on_in g)) (inl (ap (λ z. Done z r) (there t f))))
+      (E.complete (from t) r (from_fits t f) (starts_within P.goes_on G.goes_on r goes_on_in g)) (inl (ap (λ z. Done z r) (there t f))))
 
   shape_right : (ts : List Word) (m : Read X) → Right bar d P p ts m → Right bar d G (as_read to p) ts (m >>= λ x rest. Done (to x) rest)
   shape_right ts (Done x r) h = record {
@@ -105,52 +105,51 @@ module _ {X : Type 0} (bar : List ℕ) (d : ℕ) (P : Form X) (p : Reader X) (E 
 
 -- ---- no more parts may be open
 
--- a part that begins with this token, at which more than none are open whatever follows
-abbrev pub Opens : {X : Type 0} → List ℕ → Form X → Word → Type 0
-Opens {X} bar F w = (t : X) × (m : Mark) × (ms : List Mark) × (F.fits t ≡ true) × (m ∷ ms ≡ F.mark t) × (w ≡ m.word) × ((v : List Word) → 0 < count bar m v)
+-- a part that begins with this token, at which more than none are open before what follows
+abbrev pub Opens : {X : Type 0} → List ℕ → Form X → Word → List Word → Type 0
+Opens {X} bar F w v = (t : X) × (m : Mark) × (ms : List Mark) × (F.fits t ≡ true) × (m ∷ ms ≡ F.mark t) × (w ≡ m.word) × (0 < count bar m v)
+
+pub limit_deep : {X : Type 0} (bar : List ℕ) (F : Form X) (read : Reader X) (w : Word) (ts : List Word) → Opens bar F w ts → Fails bar 0 TooDeep F read (w ∷ ts) (w ∷ ts)
+limit_deep bar F read w ts (t, m, ms, f, g, h, k) = record {
+  used = [];
+  split = refl;
+  local = λ s. absurd (cc);
+  tree = t;
+  fits = f;
+  seen = [];
+  more = m ∷ ms;
+  seen_is = refl;
+  viable = g;
+  shallow = tt;
+  deep = (m, ms, ts, refl, ap (λ z. z ∷ ts) h, k);
+}
+
+-- a token that begins no part, where that is seen by it alone
+pub limit_wrong : {X : Type 0} (bar : List ℕ) (F : Form X) (read : Reader X) (ts : List Word) → F.fits F.some ≡ true → ((x : Word) (v w : List Word) → ts ≡ x ∷ v → read (x ∷ w) ≡ Bad Syntax (x ∷ w)) →
+    Fails bar 0 Syntax F read ts ts
+limit_wrong bar F read ts some_fits local = record {
+  used = [];
+  split = refl;
+  local = λ s. local;
+  tree = F.some;
+  fits = some_fits;
+  seen = [];
+  more = F.mark F.some;
+  seen_is = refl;
+  viable = refl;
+  shallow = tt;
+  deep = tt;
+}
 
 module _ {X : Type 0} (bar : List ℕ) (F : Form X) (solid : F.is_empty ≡ false) (some_fits : F.fits F.some ≡ true) (begins : (x : X) → F.fits x ≡ true → Begins F.first F.is_empty (spell F x))
-    (opens : (w : Word) → is_in F.first (key_of w) ≡ true → Opens bar F w) (high : (x : X) → F.fits x ≡ true → 0 < highest (F.mark x)) where
+    (opens : (w : Word) (v : List Word) → is_in F.first (key_of w) ≡ true → Opens bar F w v) (high : (x : X) → F.fits x ≡ true → 0 < highest (F.mark x)) where
   limit_complete : (x : X) (r : List Word) → F.fits x ≡ true → Comes 0 (highest (F.mark x)) x r (limit_read F.first (spell F x ++ r))
   limit_complete x r f = rw (starts_true F.first F.is_empty (spell F x) r solid (begins x f)) (inr (tt, high x f))
 
-  limit_wrong : (ts : List Word) → starts F.first ts ≡ false → Fails bar 0 Syntax F (limit_read F.first) ts ts
-  limit_wrong ts e = record {
-    used = [];
-    split = refl;
-    local = λ s x v w f. ap (λ b. limited b (x ∷ w)) (ap (starts F.first) (sym f) ∙ e);
-    tree = F.some;
-    fits = some_fits;
-    seen = [];
-    more = F.mark F.some;
-    seen_is = refl;
-    viable = refl;
-    shallow = tt;
-    deep = tt;
-  }
-
-  limit_deep : (w : Word) (ts : List Word) → is_in F.first (key_of w) ≡ true → Fails bar 0 TooDeep F (limit_read F.first) (w ∷ ts) (w ∷ ts)
-  limit_deep w ts e = at (opens w e)
-    where
-    at : Opens bar F w → Fails bar 0 TooDeep F (limit_read F.first) (w ∷ ts) (w ∷ ts)
-    at (t, m, ms, f, g, h, k) = record {
-      used = [];
-      split = refl;
-      local = λ s. absurd (cc);
-      tree = t;
-      fits = f;
-      seen = [];
-      more = m ∷ ms;
-      seen_is = refl;
-      viable = g;
-      shallow = tt;
-      deep = (m, ms, ts, refl, ap (λ z. z ∷ ts) h, k ts);
-    }
-
   limit_right : (ts : List Word) (b : Bool) → starts F.first ts ≡ b → Right bar 0 F (limit_read F.first) ts (limited b ts)
-  limit_right ts false e = limit_wrong ts e
+  limit_right ts false e = limit_wrong bar F (limit_read F.first) ts some_fits (λ x v w f. ap (λ b. limited b (x ∷ w)) (ap (starts F.first) (sym f) ∙ e))
   limit_right [] true e = absurd (cc)
-  limit_right (w ∷ ts) true e = limit_deep w ts e
+  limit_right (w ∷ ts) true e = limit_deep bar F (limit_read F.first) w ts (opens w ts e)
 
   pub limit_exact : Exact bar 0 F (limit_read F.first)
   limit_exact = record {

@@ -1,5 +1,5 @@
 -- Reading tokens from the left, by small readers put together.
-use Rattle.std.specs.Prelude.{ℕ, zero, suc, Bool, true, false, List, [], ◌∷◌, ◌++◌, length, Option, Some, None, cond, ◌==◌, ◌⊎◌}
+use Rattle.std.specs.Prelude.{◌≡◌, ℕ, ◌-◌, ◌&&◌, zero, suc, Bool, true, false, List, [], ◌∷◌, ◌++◌, length, Option, Some, None, cond, ◌==◌, ◌⊎◌}
 use Rattle.std.proofs.Common.{inl, inr}
 use Rattle.rast_forms.specs.Words.{Word, Name, Number, Fixed, starts}
 
@@ -98,3 +98,48 @@ front xs m = m >>= λ ys rest. Done (xs ++ ys) rest
 -- one reader or another of the same parts, by the first token
 abbrev pub choice_read : {X : Type 0} → List ℕ → Reader X → Reader X → Reader X
 choice_read first p q ts = cond (starts first ts) (p ts) (q ts)
+
+-- a loop that reads any number of parts, with so many turns, before one of them: what it has read, and what it will answer
+pub record IsUnderWay {X : Type 0} (first : List ℕ) (p : Reader X) (turns turn : ℕ) (xs : List X) (rest : List Word) (all : Read (List X)) : Type 0 where
+  pub so_far : front xs (many_read first p (turns - turn) rest) ≡ all
+
+-- ---- some readers of more than one part
+
+-- whether it is a part of the first kind, by a test of the tokens
+abbrev pub ahead_read : {X Y : Type 0} → (List Word → Bool) → Reader X → Reader Y → Reader (X ⊎ Y)
+ahead_read test p q ts = either_read p q (test ts) ts
+
+abbrev pub never_inl : {X Y : Type 0} → Reader Y → Reader (X ⊎ Y)
+never_inl q ts = q ts >>= λ y rest. Done (inr y) rest
+
+-- a choice that is there only if a flag says so
+abbrev pub guarded_read : {X Y : Type 0} → Bool → List ℕ → Reader X → Reader Y → Reader (X ⊎ Y)
+guarded_read true first p q = alt_read first p q
+guarded_read false first p q = never_inl q
+
+-- the parts that one with more behind it is put before
+abbrev pub longer : {X : Type 0} → X → Read (List X × X) → Read (List X × X)
+longer x m = m >>= λ s rest. Done (x ∷ s.0, s.1) rest
+
+-- the place after the first token
+abbrev pub after_first : List Word → List Word
+after_first [] = []
+after_first (t ∷ ts) = ts
+
+-- a part after which another one may or must come, behind a token of these kinds, or that is the last
+abbrev pub chain_turn : {X : Type 0} → List ℕ → (X → Bool) → (X → Bool) → (List Word → Read (List X × X)) → X → Bool → List Word → Read (List X × X)
+chain_turn semi goes ends further x true more = cond (goes x) (longer x (further (after_first more))) (Done ([], x) more)
+chain_turn semi goes ends further x false more = cond (ends x) (Done ([], x) more) (Bad Syntax more)
+
+-- parts one after another, at most so many, each but the last before a token of these kinds
+abbrev pub chain_read : {X : Type 0} → List ℕ → (X → Bool) → (X → Bool) → Reader X → ℕ → Reader (List X × X)
+chain_read semi goes ends p zero ts = Bad Syntax ts
+chain_read semi goes ends p (suc n) ts = p ts >>= λ x more. chain_turn semi goes ends (chain_read semi goes ends p n) x (starts semi more) more
+
+abbrev pub all_chain_read : {X : Type 0} → List ℕ → (X → Bool) → (X → Bool) → Reader X → Reader (List X × X)
+all_chain_read semi goes ends p ts = chain_read semi goes ends p (length ts) ts
+
+-- whether the first token passes a test, and the second is of these kinds
+abbrev pub two_test : (Word → Bool) → List ℕ → List Word → Bool
+two_test one second [] = false
+two_test one second (t ∷ ts) = one t && starts second ts

@@ -32,3 +32,8 @@ is_apart (x ∷ xs) ys = not (is_in ys x) && is_apart xs ys
 abbrev pub is_within : List ℕ → List ℕ → Bool
 is_within [] ys = true
 is_within (x ∷ xs) ys = is_in ys x && is_within xs ys
+
+-- each of these is true
+abbrev pub all_true : List Bool → Bool
+all_true [] = true
+all_true (b ∷ bs) = b && all_true bs

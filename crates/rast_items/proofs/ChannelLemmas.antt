@@ -44,12 +44,12 @@ pub record Array (c : ℕ) (links : List Entry) (uses : List Entry) (own : Link)
 
 pub put_array : (c i x : ℕ) (l : Link) (links uses : List Entry) (own : Link) → c ≤ 16 → i + 1 < c → IsPlace x uses i → Array c links uses own → Array c (set links (i + 1) (x, l)) (set_key x l uses) own
 put_array c i x l links uses own h k p a = record {
-    uses_are = uses_put c i links (x, l) k ∙ (ap (λ (us : List Entry). set us i (x, l)) a.uses_are ∙ sym (place_set x l uses i no_link p));
-    own_is = ap (λ (n : ℕ). own_of (set links n (x, l))) (add-one i) ∙ (own_kept links i (x, l) ∙ a.own_is);
-    first = first_kept links (i + 1) (x, l) (omega arith) a.first;
-    filled = drop-set-lt c links (i + 1) (x, l) k ∙ a.filled;
-    whole = length-set links (i + 1) (x, l) ∙ a.whole;
-  }
+  uses_are = uses_put c i links (x, l) k ∙ (ap (λ (us : List Entry). set us i (x, l)) a.uses_are ∙ sym (place_set x l uses i no_link p));
+  own_is = ap (λ (n : ℕ). own_of (set links n (x, l))) (add-one i) ∙ (own_kept links i (x, l) ∙ a.own_is);
+  first = first_kept links (i + 1) (x, l) (omega arith) a.first;
+  filled = drop-set-lt c links (i + 1) (x, l) k ∙ a.filled;
+  whole = length-set links (i + 1) (x, l) ∙ a.whole;
+}
 
 pub push_array : (c x : ℕ) (l : Link) (links uses : List Entry) (own : Link) → 1 ≤ c → c < 16 → Array c links uses own → (first_is_own (set links c (x, l))) × (drop (c + 1) (set links c (x, l)) ≡ replicate (16 - (c + 1)) no_link)
 push_array c x l links uses own g h a = (first_kept links c (x, l) g a.first, filled_more no_link (x, l) 16 c links h a.whole a.filled)

@@ -48,10 +48,12 @@ pub record IsOnTheWay (ys : List ℕ) (i : ℕ) (from now to filled : Process) :
 
 pub way_begins : (ys : List ℕ) (from to : Process) → to.uses ≡ [] → to.fresh ≡ 1 → length from.uses ≤ 15 → IsOnTheWay ys 0 from from to to
 way_begins ys from to u f h = record {
-    links = []; pulled = before_none (pull ys from.uses); rest = refl;
-    given = ap₂ (λ (us : List (ℕ × Link)) (n : ℕ). record to { uses = us; fresh = n }) u f;
-    few = omega (arith, h);
-  }
+  links = [];
+  pulled = before_none (pull ys from.uses);
+  rest = refl;
+  given = ap₂ (λ (us : List (ℕ × Link)) (n : ℕ). record to { uses = us; fresh = n }) u f;
+  few = omega (arith, h);
+}
 
 pub way_goes_on : (ys : List ℕ) (i y : ℕ) (from now to filled after full : Process) (l : Link) → IsOnTheWay ys i from now to filled → i < length ys → get_or ys i 0 ≡ y →
     Some l ≡ find_key y now.uses → after ≡ record now { uses = drop_key y now.uses } → full ≡ with_channel filled l → IsOnTheWay ys (i + 1) from after to full
@@ -75,10 +77,11 @@ way_fails ys i y from now to filled w h g k =
 
 pub way_ends : (ys : List ℕ) (i : ℕ) (from now to filled : Process) → IsOnTheWay ys i from now to filled → length ys ≤ i → HandsOver ys from now to filled
 way_ends ys i from now to filled w h = record {
-    links = w.links;
-    pulled = w.pulled ∙ (ap (λ (zs : List ℕ). put_before w.links (pull zs now.uses)) (drop_all i ys h) ∙ ap (λ (ls : List Link). Some (ls, now.uses)) (append-nil w.links));
-    rest = w.rest; given = w.given;
-  }
+  links = w.links;
+  pulled = w.pulled ∙ (ap (λ (zs : List ℕ). put_before w.links (pull zs now.uses)) (drop_all i ys h) ∙ ap (λ (ls : List Link). Some (ls, now.uses)) (append-nil w.links));
+  rest = w.rest;
+  given = w.given;
+}
 
 length-numbered : (k : ℕ) (ls : List Link) → length (numbered k ls) ≡ length ls
 length-numbered k [] = refl

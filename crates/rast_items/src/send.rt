@@ -18,14 +18,22 @@ use rast_index::Lin;
 fn out(channel: u32) -> Side
     ensures { result ≡ out channel }
 {
-    if channel == 0 { Side::Client } else { Side::Provider }
+    if channel == 0 {
+        Side::Client
+    } else {
+        Side::Provider
+    }
 }
 
 /// The side toward which a message goes that is taken on a channel.
 fn inward(channel: u32) -> Side
     ensures { result ≡ inward channel }
 {
-    if channel == 0 { Side::Provider } else { Side::Client }
+    if channel == 0 {
+        Side::Provider
+    } else {
+        Side::Client
+    }
 }
 
 /// A send of a body with so much potential; the process goes on at a node.

@@ -20,7 +20,11 @@ pub fn after_take(program: &Program, proc: &Proc, msg: &Msg) -> Option<Proc>
     };
     match node {
         Node::Case { x, branches } => match msg.body {
-            Body::Label(label) => take_label(with_message(proc, *x, msg), branches.as_slice(), label),
+            Body::Label(label) => take_label(
+                with_message(proc, *x, msg),
+                branches.as_slice(),
+                label,
+            ),
             _ => None,
         },
         Node::Recv { x, next, .. } => match msg.body {

@@ -6,3 +6,4 @@ pub mod Pieces
 pub mod Tokens
 pub mod Fronts
 pub mod Seen
+pub mod Meaning

@@ -6,7 +6,7 @@ use Rattle.rast_items.specs.declared.action.Action.{Action}
 use Rattle.rast_core.specs.Edits.{KeepsPid}
 use Rattle.rast_core.proofs.DecideLemmas.{item_holds}
 use Rattle.rast_core.proofs.DeedBounds.{deed_keeps, keeps_pid}
-use Rattle.rast_core.proofs.ConfigLemmas.{bounded_after}
+use Rattle.rast_core.proofs.RunLemmas.{replay_more}
 use Rattle.rast_core.proofs.decide.decide.Goals as goal
 
 pub decide_action-requires-clause-pid : goal.decide_action-requires-clause-pid

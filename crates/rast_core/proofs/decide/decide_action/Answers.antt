@@ -30,39 +30,39 @@ forward-requires c = slice_get_within c.args.items.now c.args.place (P c.args.pr
 pub returns-in-Put : goal.returns-in-Put
 returns-in-Put c = λ plan d e.
     of_action (run_code c.args.program.now plan) c.args.items.now c.args.place c.args.proc.now _ c.args.action (action.Put c.in-Put.msg c.in-Put.rest) d
-      (put_decided (run_code c.args.program.now plan) c.args.items.now c.args.place c.args.proc.now c.proc.inside.pid c.in-Put.msg c.in-Put.rest c.put.result (slice_get_within c.args.items.now c.args.place (P c.args.proc.now) c.requires.at) (ap (λ (q : Proc). q.pid) c.proc.view_is) c.put.ensures) (c.in-Put.is) e
+    (put_decided (run_code c.args.program.now plan) c.args.items.now c.args.place c.args.proc.now c.proc.inside.pid c.in-Put.msg c.in-Put.rest c.put.result (slice_get_within c.args.items.now c.args.place (P c.args.proc.now) c.requires.at) (ap (λ (q : Proc). q.pid) c.proc.view_is) c.put.ensures) (c.in-Put.is) e
 
 pub returns-in-Client : goal.returns-in-Client
 returns-in-Client c = λ plan d e.
     of_action (run_code c.args.program.now plan) c.args.items.now c.args.place c.args.proc.now _ c.args.action (action.Take c.in-Take.link Client) d
-      (c.take_below.ensures plan) (c.in-Take.is ∙ ap (λ (s : Side). action.Take c.in-Take.link s) c.in-Client.is) e
+    (c.take_below.ensures plan) (c.in-Take.is ∙ ap (λ (s : Side). action.Take c.in-Take.link s) c.in-Client.is) e
 
 pub returns-in-Provider : goal.returns-in-Provider
 returns-in-Provider c = λ plan d e.
     of_action (run_code c.args.program.now plan) c.args.items.now c.args.place c.args.proc.now _ c.args.action (action.Take c.in-Take.link Provider) d
-      (c.take_above.ensures plan) (c.in-Take.is ∙ ap (λ (s : Side). action.Take c.in-Take.link s) c.in-Provider.is) e
+    (c.take_above.ensures plan) (c.in-Take.is ∙ ap (λ (s : Side). action.Take c.in-Take.link s) c.in-Provider.is) e
 
 pub returns-in-Move : goal.returns-in-Move
 returns-in-Move c = λ plan d e.
     of_action (run_code c.args.program.now plan) c.args.items.now c.args.place c.args.proc.now _ c.args.action (action.Move c.in-Move.other c.in-Move.wait) d
-      (c.forward.ensures) (c.in-Move.is) e
+    (c.forward.ensures) (c.in-Move.is) e
 
 pub returns-in-Make : goal.returns-in-Make
 returns-in-Make c = λ plan d e.
     of_action (run_code c.args.program.now plan) c.args.items.now c.args.place c.args.proc.now _ c.args.action (action.Make c.in-Make.child c.in-Make.rest c.in-Make.decl) d
-      (make_decided (run_code c.args.program.now plan) c.args.items.now c.args.place c.args.proc.now c.in-Make.child c.in-Make.rest c.proc.inside.pid c.child.inside.pid c.in-Make.decl c.rest.inside.moment c.rest-in-Make.inside.spawned (slice_get_within c.args.items.now c.args.place (P c.args.proc.now) c.requires.at) (free_before (is_proc c.args.proc.now.pid) c.args.items.now c.args.place c.requires.here) (subst (λ (a : Action). KeepsPid c.args.proc.now.pid a) c.in-Make.is c.requires.pid) (ap (λ (q : Proc). q.pid) c.proc.view_is) (ap (λ (q : Proc). q.pid) c.child.view_is) (ap (λ (q : Proc). q.moment) c.rest.view_is) (ap (λ (q : Proc). q.spawned) c.rest-in-Make.view_is)) (c.in-Make.is) e
+    (make_decided (run_code c.args.program.now plan) c.args.items.now c.args.place c.args.proc.now c.in-Make.child c.in-Make.rest c.proc.inside.pid c.child.inside.pid c.in-Make.decl c.rest.inside.moment c.rest-in-Make.inside.spawned (slice_get_within c.args.items.now c.args.place (P c.args.proc.now) c.requires.at) (free_before (is_proc c.args.proc.now.pid) c.args.items.now c.args.place c.requires.here) (subst (λ (a : Action). KeepsPid c.args.proc.now.pid a) c.in-Make.is c.requires.pid) (ap (λ (q : Proc). q.pid) c.proc.view_is) (ap (λ (q : Proc). q.pid) c.child.view_is) (ap (λ (q : Proc). q.moment) c.rest.view_is) (ap (λ (q : Proc). q.spawned) c.rest-in-Make.view_is)) (c.in-Make.is) e
 
 pub returns-in-Turn : goal.returns-in-Turn
 returns-in-Turn c = λ plan d e.
     of_action (run_code c.args.program.now plan) c.args.items.now c.args.place c.args.proc.now _ c.args.action (action.Turn c.in-Turn.rest c.in-Turn.decl) d
-      (turn_decided (run_code c.args.program.now plan) c.args.items.now c.args.place c.args.proc.now c.in-Turn.rest c.proc.inside.pid c.in-Turn.decl c.rest-in-Turn.inside.moment (slice_get_within c.args.items.now c.args.place (P c.args.proc.now) c.requires.at) (ap (λ (q : Proc). q.pid) c.proc.view_is) (ap (λ (q : Proc). q.moment) c.rest-in-Turn.view_is)) (c.in-Turn.is) e
+    (turn_decided (run_code c.args.program.now plan) c.args.items.now c.args.place c.args.proc.now c.in-Turn.rest c.proc.inside.pid c.in-Turn.decl c.rest-in-Turn.inside.moment (slice_get_within c.args.items.now c.args.place (P c.args.proc.now) c.requires.at) (ap (λ (q : Proc). q.pid) c.proc.view_is) (ap (λ (q : Proc). q.moment) c.rest-in-Turn.view_is)) (c.in-Turn.is) e
 
 pub returns-in-Work : goal.returns-in-Work
 returns-in-Work c = λ plan d e.
     of_action (run_code c.args.program.now plan) c.args.items.now c.args.place c.args.proc.now _ c.args.action (action.Work c.in-Work.amount c.in-Work.rest) d
-      (work_decided (run_code c.args.program.now plan) c.args.items.now c.args.place c.args.proc.now c.in-Work.rest c.proc.inside.pid c.in-Work.amount c.rest-in-Work.inside.moment (slice_get_within c.args.items.now c.args.place (P c.args.proc.now) c.requires.at) (ap (λ (q : Proc). q.pid) c.proc.view_is) (ap (λ (q : Proc). q.moment) c.rest-in-Work.view_is)) (c.in-Work.is) e
+    (work_decided (run_code c.args.program.now plan) c.args.items.now c.args.place c.args.proc.now c.in-Work.rest c.proc.inside.pid c.in-Work.amount c.rest-in-Work.inside.moment (slice_get_within c.args.items.now c.args.place (P c.args.proc.now) c.requires.at) (ap (λ (q : Proc). q.pid) c.proc.view_is) (ap (λ (q : Proc). q.moment) c.rest-in-Work.view_is)) (c.in-Work.is) e
 
 pub returns-in-Delay : goal.returns-in-Delay
 returns-in-Delay c = λ plan d e.
     of_action (run_code c.args.program.now plan) c.args.items.now c.args.place c.args.proc.now _ c.args.action (action.Delay c.in-Delay.ticks c.in-Delay.rest) d
-      (delay_decided (run_code c.args.program.now plan) c.args.items.now c.args.place c.args.proc.now c.in-Delay.rest c.proc.inside.pid c.in-Delay.ticks c.rest-in-Delay.inside.moment (slice_get_within c.args.items.now c.args.place (P c.args.proc.now) c.requires.at) (ap (λ (q : Proc). q.pid) c.proc.view_is) (ap (λ (q : Proc). q.moment) c.rest-in-Delay.view_is)) (c.in-Delay.is) e
+    (delay_decided (run_code c.args.program.now plan) c.args.items.now c.args.place c.args.proc.now c.in-Delay.rest c.proc.inside.pid c.in-Delay.ticks c.rest-in-Delay.inside.moment (slice_get_within c.args.items.now c.args.place (P c.args.proc.now) c.requires.at) (ap (λ (q : Proc). q.pid) c.proc.view_is) (ap (λ (q : Proc). q.moment) c.rest-in-Delay.view_is)) (c.in-Delay.is) e

@@ -11,5 +11,5 @@ returns-in-Some c =
     let o = c.own-own.ensures in
     let k : IsCutAt (is_msg p.own Provider) c.front_of-above.result.now c.in-Some.at = subst (λ (l : Link). IsCutAt (is_msg l Provider) c.front_of-above.result.now c.in-Some.at) o c.in-Some.ensures in
     above_moved c.args.items.now c.args.place c.in-Some.at p c.index-above-at.result c.args.other c.args.wait c.hand_on.result c.requires
-      (met_read (is_msg p.own Provider) c.front_of-above.result.now (take c.args.place c.args.items.now) c.in-Some.at c.index-above-at.result c.index-above-at.result c.front_of-above.ensures k c.index-above-at.is refl)
-      (hands_same c.index-above-at.result c.in-Some.at c.args.place c.args.other c.args.other c.proc.inside.pid p.pid c.hand_on.result refl (ap (λ (q : Proc). q.pid) c.proc.view_is) c.hand_on.ensures)
+    (met_read (is_msg p.own Provider) c.front_of-above.result.now (take c.args.place c.args.items.now) c.in-Some.at c.index-above-at.result c.index-above-at.result c.front_of-above.ensures k c.index-above-at.is refl)
+    (hands_same c.index-above-at.result c.in-Some.at c.args.place c.args.other c.args.other c.proc.inside.pid p.pid c.hand_on.result refl (ap (λ (q : Proc). q.pid) c.proc.view_is) c.hand_on.ensures)

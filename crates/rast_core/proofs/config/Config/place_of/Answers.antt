@@ -12,4 +12,4 @@ returns-then-is_process c =
     let i = c.self.inside in
     let b = c.self.invariant.2 in
     subst (λ (xs : List Item). IsCutAt (is_proc c.args.pid) xs i.last) (ap (λ (v : Shown). v.items) c.self.view_is)
-      (unique_cut c.args.pid i.items.items i.last c.index.result.now (b.once c.args.pid) (read_at i.items.items i.last c.index.result.now (omega (arith, c.if-self-len.true, c.len.ensures)) c.index.ensures) (sym c.if-is_process.ensures))
+    (unique_cut c.args.pid i.items.items i.last c.index.result.now (b.once c.args.pid) (read_at i.items.items i.last c.index.result.now (omega (arith, c.if-self-len.true, c.len.ensures)) c.index.ensures) (sym c.if-is_process.ensures))

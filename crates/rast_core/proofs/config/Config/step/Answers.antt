@@ -15,4 +15,4 @@ pub returns-in-Does : goal.returns-in-Does
 returns-in-Does c =
     let old = c.args.self.now in
     leaves_by old c.perform.new.self c.in-Some.place c.in-Does.event c.in-Does.edit c.in-Does.child (next_of c.args.program.now old c.args.pid)
-      (subst (λ (r : Decision). Decides (next_of c.args.program.now old c.args.pid) old.items c.in-Some.place r) c.in-Does.is c.in-Some.ensures.1) c.perform.ensures.items c.perform.ensures.origins c.perform.ensures.plan c.perform.ensures.spare
+    (subst (λ (r : Decision). Decides (next_of c.args.program.now old c.args.pid) old.items c.in-Some.place r) c.in-Does.is c.in-Some.ensures.1) c.perform.ensures.items c.perform.ensures.origins c.perform.ensures.plan c.perform.ensures.spare

@@ -1,0 +1,94 @@
+-- Runs that are under way.
+use Rattle.std.proofs.Common.{◌≡◌, ℕ, Bool, true, false, ◌+◌, ◌<◌, ◌≤◌, ◌==◌, List, [], ◌∷◌, ◌++◌, Option, Some, None, refl, sym, ap, ◌∙◌, subst, arith, length, if◌then◌else◌, eq-eqb}
+use Rattle.std.proofs.lemmas.List.{length_push}
+use Rattle.rast_terms.specs.declared.program.Program.{Program}
+use Rattle.rast_rules.specs.declared.judgement.Plan.{Plan}
+use Rattle.rast_core.specs.Words.{Pid, Item, P, M, Event}
+use Rattle.rast_items.specs.Step.{Next as Does, Ready as DReady, Waits as DWaits, Halted as DHalted, Ended as DEnded, Stuck as DStuck}
+use Rattle.rast_items.specs.Run.{State}
+use Rattle.rast_core.specs.Shown.{Shown, IsReplay, next_of, is_ready, some_ready, first_halted, halt_of, rest_outcome, are_poised, outcome}
+use Rattle.rast_core.specs.Promises.{CanStart, IsStart, Leaves, StepIs, IsTurn, IsFullRun}
+use Rattle.rast_core.specs.declared.answer.Next.{Next}
+use Rattle.rast_core.specs.declared.answer.Next.TheVariants.{Ready, Waits, Halted, Ended, Stuck}
+use Rattle.rast_core.specs.declared.answer.Outcome.{Outcome}
+use Rattle.rast_core.specs.declared.answer.Outcome.TheVariants.{Running, Finished, OutOfBudget, IndexLimit, Blocked}
+use Rattle.rast_core.proofs.RunLemmas.{Went, went, replay_more}
+
+-- a run of so many events, with room for the rest of a budget
+pub record IsPartRun (g : Program) (plan : Plan) (budget : ℕ) (v : Shown) (es : List Event) (done : ℕ) : Type 0 where
+  pub state : State
+  pub replayed : IsReplay g v es state
+  pub plan_is : v.plan ≡ plan
+  pub count : length es ≡ done
+  pub room : v.spare + done ≡ budget
+
+pub part_begins : (g : Program) (plan : Plan) (budget : ℕ) (v : Shown) → IsStart g plan budget v → IsPartRun g plan budget v [] 0
+part_begins g plan budget v s = record { state = s.state; replayed = s.replayed; plan_is = s.plan_is; count = refl; room = omega (arith, s.room_is) }
+
+pub part_goes_on : (g : Program) (plan : Plan) (budget : ℕ) (old new : Shown) (es : List Event) (done : ℕ) (e : Event) → IsPartRun g plan budget old es done → IsTurn g old (Some e) new → IsPartRun g plan budget new (es ++ e ∷ []) (done + 1)
+part_goes_on g plan budget old new es done e r t =
+    let w = went g old new t.0 e t.1 in
+    record { state = _; replayed = replay_more g old new es r.state t.0 e r.replayed w; plan_is = w.plan_is ∙ r.plan_is; count = omega (arith, length_push es e, r.count); room = omega (arith, r.room, w.spare_is) }
+
+-- ---- how it ends
+
+-- an outcome that isn't Running
+abbrev pub Ends : Outcome → Type 0
+Ends o = o ≡ Running → ⊥
+
+halt_ends : (pid : Pid) (n : Does) (o : Outcome) → Ends o → Ends (halt_of pid n o)
+halt_ends pid (DReady e items) o h = h
+halt_ends pid (DWaits l) o h = h
+halt_ends pid (DHalted v) o h = λ e. cc
+halt_ends pid DEnded o h = h
+halt_ends pid DStuck o h = h
+
+halted_ends : (g : Program) (v : Shown) (items : List Item) (o : Outcome) → Ends o → Ends (first_halted g v items o)
+halted_ends g v [] o h = h
+halted_ends g v (P p ∷ is) o h = halt_ends p.pid (next_of g v p.pid) (first_halted g v is o) (halted_ends g v is o h)
+halted_ends g v (M m ∷ is) o h = halted_ends g v is o h
+
+rest_ends : (b : Bool) → Ends (if b then Finished else Blocked)
+rest_ends true = λ e. cc
+rest_ends false = λ e. cc
+
+quiet_ends : (g : Program) (v : Shown) (events budget : ℕ) (b : Bool) → b ≡ false → Ends (if b then (if events == budget then OutOfBudget else Running) else first_halted g v v.items (rest_outcome g v))
+quiet_ends g v events budget true h = cc
+quiet_ends g v events budget false h = halted_ends g v v.items (rest_outcome g v) (rest_ends (are_poised g v))
+
+used_ends : (g : Program) (v : Shown) (b c : Bool) → c ≡ true → Ends (if b then (if c then OutOfBudget else Running) else first_halted g v v.items (rest_outcome g v))
+used_ends g v true true h = λ e. cc
+used_ends g v true false h = cc
+used_ends g v false c h = halted_ends g v v.items (rest_outcome g v) (rest_ends (are_poised g v))
+
+pub run_quiet : (g : Program) (plan : Plan) (budget : ℕ) (old new : Shown) (es : List Event) (done : ℕ) → IsPartRun g plan budget old es done → IsTurn g old None new → IsFullRun g plan budget new es
+run_quiet g plan budget old new es done r t =
+    subst (λ (v : Shown). IsFullRun g plan budget v es) (sym t.0) (record { state = r.state; replayed = r.replayed; plan_is = r.plan_is; few = omega (arith, r.count, r.room); decided = quiet_ends g old (length es) budget (some_ready g old old.items) t.1 })
+
+pub run_used : (g : Program) (plan : Plan) (budget : ℕ) (v : Shown) (es : List Event) (done : ℕ) → IsPartRun g plan budget v es done → budget ≤ done → IsFullRun g plan budget v es
+run_used g plan budget v es done r h =
+    record { state = r.state; replayed = r.replayed; plan_is = r.plan_is; few = omega (arith, r.count, r.room); decided = used_ends g v (some_ready g v v.items) (length es == budget) (eq-eqb (length es) budget (omega (arith, r.count, r.room, h))) }
+
+-- ---- one turn
+
+stays_by : (n : Does) (old new : Shown) (r : Next) → Leaves n old r new → ((e : Event) → r ≡ Ready e → ⊥) → new ≡ old
+stays_by (DReady e items) old new r l h = absurd (h e l.0)
+stays_by (DWaits k) old new r l h = l.1
+stays_by (DHalted v) old new r l h = l.1
+stays_by DEnded old new r l h = l.1
+stays_by DStuck old new r l h = l.1
+
+-- a step that isn't ready changes nothing
+pub stays : (g : Program) (old new : Shown) (pid : Pid) (r : Next) → StepIs g old pid r new → ((e : Event) → r ≡ Ready e → ⊥) → new ≡ old
+stays g old new pid r l h = stays_by (next_of g old pid) old new r l h
+
+ready_by : (n : Does) (old new : Shown) (r : Next) → is_ready n ≡ true → Leaves n old r new → ((e : Event) → r ≡ Ready e → ⊥) → ⊥
+ready_by (DReady e items) old new r h l k = k e l.0
+ready_by (DWaits x) old new r h l k = cc
+ready_by (DHalted v) old new r h l k = cc
+ready_by DEnded old new r h l k = cc
+ready_by DStuck old new r h l k = cc
+
+-- a process that has an event does it
+pub ready_goes : (g : Program) (old new : Shown) (pid : Pid) (r : Next) → is_ready (next_of g old pid) ≡ true → StepIs g old pid r new → ((e : Event) → r ≡ Ready e → ⊥) → ⊥
+ready_goes g old new pid r h l k = ready_by (next_of g old pid) old new r h l k

@@ -1,0 +1,9 @@
+use Rattle.std.proofs.Common.{◌≡◌, drop}
+use Rattle.std.specs.List.{list_all}
+use Rattle.rast_items.specs.Ends.{is_poised}
+use Rattle.rast_core.specs.Shown.{some_ready, first_halted, are_poised, code_of}
+use Rattle.rast_core.specs.declared.answer.Outcome.{Outcome}
+use Rattle.rast_core.proofs.config.Config.first_ready.Given as goal
+
+abbrev pub invariant-loop-place : goal.invariant-loop-place
+invariant-loop-place l = some_ready l.program l.self (drop l.place l.self.items) ≡ some_ready l.program l.self l.self.items

@@ -1,0 +1,8 @@
+use Rattle.std.proofs.Common.{◌≡◌, ◌+◌, length}
+use Rattle.rast_items.specs.Run.{State}
+use Rattle.rast_core.specs.Shown.{IsReplay}
+use Rattle.rast_core.proofs.TurnLemmas.{IsPartRun}
+use Rattle.rast_core.proofs.turns.run.Given as goal
+
+abbrev pub invariant-loop-done : goal.invariant-loop-done
+invariant-loop-done l = IsPartRun l.program l.fn.plan l.budget l.config l.history.items l._done

@@ -1,0 +1,30 @@
+-- What is answered of the item at a place.
+use Rattle.std.specs.Prelude.{◌≡◌, ℕ, Bool, false, Option, Some, None}
+use Rattle.rast_terms.specs.declared.program.Program.{Program}
+use Rattle.rast_core.specs.Words.{Pid, Item, P, M}
+use Rattle.rast_core.specs.Shown.{Shown, next_of, is_ready, halt_of}
+use Rattle.rast_core.specs.Promises.{Tells}
+use Rattle.rast_core.specs.declared.answer.Next.{Next}
+use Rattle.rast_core.specs.declared.answer.Outcome.{Outcome}
+use Rattle.rast_core.specs.declared.answer.Outcome.TheVariants.{IndexLimit}
+
+-- a process with what it does next; nothing of a message
+abbrev pub IsNextAt : Program → Shown → Option Item → Option (Pid × Next) → Type 0
+IsNextAt g v (Some (P p)) (Some r) = (r.0 ≡ p.pid) × Tells (next_of g v p.pid) r.1
+IsNextAt g v (Some (M m)) None = Unit {0}
+IsNextAt g v item r = ⊥
+
+-- the outcome of a process that is halted at a value; else the one that is given
+abbrev pub or_halted : Option (Pid × ℕ) → Outcome → Outcome
+or_halted None o = o
+or_halted (Some r) o = IndexLimit r.0 r.1
+
+-- whether it is a process that has an event
+abbrev pub ready_item : Program → Shown → Option Item → Bool
+ready_item g v (Some (P p)) = is_ready (next_of g v p.pid)
+ready_item g v item = false
+
+-- the outcome where it is a process that is halted; else the one that is given
+abbrev pub halted_item : Program → Shown → Option Item → Outcome → Outcome
+halted_item g v (Some (P p)) o = halt_of p.pid (next_of g v p.pid) o
+halted_item g v item o = o

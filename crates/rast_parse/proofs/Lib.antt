@@ -1,0 +1,13 @@
+pub mod Words
+pub mod Faults
+pub mod Choices
+pub mod Trees
+pub mod LinearExact
+pub mod TermLimit
+pub mod Divisions
+pub mod FormulasExact
+pub mod FormulaLimit
+pub mod Depths
+pub mod Whole
+pub mod Good
+pub mod Parsed
