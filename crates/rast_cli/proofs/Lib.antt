@@ -1,5 +1,10 @@
 pub mod Added
-pub mod WordLemmas
-pub mod AnswerLemmas
-pub mod WriteLemmas
 pub mod StartLemmas
+pub mod WriteLemmas
+pub mod AskLemmas
+pub mod SayLemmas
+pub mod Codes
+pub mod RunRows
+pub mod ShowRows
+pub mod DecideRows
+pub mod TopRows

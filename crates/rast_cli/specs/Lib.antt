@@ -1,5 +1,6 @@
 pub mod Tables
 pub mod Lines
-pub mod Asked
+pub mod Held
 pub mod Reported
 pub mod Answered
+pub mod Rows

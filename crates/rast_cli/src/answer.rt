@@ -3,6 +3,8 @@ ghost use Rattle.std.specs.Prelude.{◌≡◌, IfOk};
 ghost use Rattle.rast_cli.specs.Lines.{code_of, refusal_line};
 
 use rast_core::Outcome;
+use rast_decide::Decision;
+use rast_load::TextFault;
 use std::alloc::{AllocError, Global};
 
 /// What the words and the files call for.
@@ -14,10 +16,16 @@ pub enum Answer {
     ReadFault,
     /// The file has too many bytes.
     TooLong,
+    /// The bytes are no file, and have this first fault.
+    NoFile(TextFault),
     /// The file has a form that isn't built; `at` is the byte at which it begins.
     NotYet { at: u32 },
     /// The program was run, and came to this outcome.
     Ran(Outcome),
+    /// The canonical text of the file was made.
+    Shown,
+    /// The formula was decided, or its text refused.
+    Decided(Decision),
 }
 
 /// The exit status.
@@ -25,7 +33,7 @@ pub fn code(answer: Answer) -> u8
     ensures { result ≡ code_of answer }
 {
     match answer {
-        Answer::Ran(Outcome::Finished) => 0,
+        Answer::Shown | Answer::Ran(Outcome::Finished) => 0,
         Answer::NotYet { .. } => 1,
         Answer::Usage => 2,
         Answer::ReadFault => 3,
@@ -33,10 +41,12 @@ pub fn code(answer: Answer) -> u8
         Answer::Ran(Outcome::IndexLimit { .. }) => 7,
         Answer::TooLong => 9,
         Answer::Ran(Outcome::Blocked) => 10,
+        Answer::NoFile(fault) => rast_load::status(fault),
+        Answer::Decided(decision) => rast_decide::status(decision),
     }
 }
 
-/// The line of a refusal.
+/// The line of a refusal. A run has its report, a file its canonical text, and what is decided its own line.
 pub fn line(alloc: Global, answer: Answer) -> Result<Vec<u8>, AllocError>
     ensures { IfOk result (λ line. line.items ≡ refusal_line answer) }
 {
@@ -44,10 +54,11 @@ pub fn line(alloc: Global, answer: Answer) -> Result<Vec<u8>, AllocError>
         Answer::Usage => b"usage: rast run|check|explicit|show|decide|trial\n".to_vec(alloc),
         Answer::ReadFault => b"read fault\n".to_vec(alloc),
         Answer::TooLong => b"too long\n".to_vec(alloc),
+        Answer::NoFile(fault) => rast_load::line(alloc, fault),
         Answer::NotYet { at } => {
             let line = format!(in alloc; "refused: not yet at byte {at}\n")?;
             line.as_bytes().to_vec(alloc)
         }
-        Answer::Ran(_) => Ok(Vec::new(alloc)),
+        Answer::Ran(_) | Answer::Shown | Answer::Decided(_) => Ok(Vec::new(alloc)),
     }
 }

@@ -2,13 +2,15 @@
 #![tactic(auto)]
 
 mod answer;
+mod decide;
 mod names;
 mod run;
+mod said;
+mod show;
 mod tables;
 mod top;
 
 pub use answer::Answer;
-pub use run::BUDGET;
 pub use top::{Exit, rast};
 
 #[cfg(test)]

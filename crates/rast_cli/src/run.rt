@@ -1,12 +1,12 @@
 // `rast run`.
-ghost use Rattle.std.specs.Prelude.{◌≡◌, map, string_bytes, IfOk, IfSome, IsNone, List, ℕ};
+ghost use Rattle.std.specs.Prelude.{◌≡◌, IfOk};
 ghost use Rattle.rast_io.specs.Causes.{Rose};
 ghost use Rattle.rast_core.specs.Promises.{CanStart};
-ghost use Rattle.rast_cli.specs.Asked.{Asks};
 ghost use Rattle.rast_cli.specs.Reported.{IsReport};
-ghost use Rattle.rast_cli.specs.Answered.{IsRefusal, Comes};
+ghost use Rattle.rast_cli.specs.Answered.{RunComes};
 
-use crate::answer::{Answer, line};
+use crate::answer::Answer;
+use crate::said::{Said, refuse};
 use crate::tables::program_of_file;
 use rast_core::Outcome;
 use rast_io::{Files, LIMIT, ReadErr, read_all};
@@ -18,17 +18,6 @@ use rast_terms::Program;
 use sqlite_items::Items;
 use std::alloc::{AllocError, Global};
 
-/// The most events of a run.
-pub const BUDGET: u32 = 100_000;
-
-/// What is to be written, why, and the run that is reported.
-#[derive(Drop)]
-pub(crate) struct Said {
-    pub(crate) answer: Answer,
-    pub(crate) text: Vec<u8>,
-    pub(crate) history: Vec<Event>,
-}
-
 // A run with its report.
 #[derive(Drop)]
 struct Made {
@@ -37,41 +26,18 @@ struct Made {
     history: Vec<Event>,
 }
 
-// The file that the words name.
-fn file_name(words: &[String]) -> Option<&str>
-    ensures asks { IfSome result (λ name. Asks (map string_bytes words.now) name.now) }
-    ensures none { IsNone result → (name : List ℕ) → Asks (map string_bytes words.now) name → ⊥ }
-{
-    match words {
-        [_, command, name] if command.as_str() == "run" => Some(name.as_str()),
-        _ => None,
-    }
-}
-
-// A refusal has its line, and no run.
-fn refuse(alloc: Global, answer: Answer) -> Result<Said, AllocError>
-    ensures answer { IfOk result (λ said. said.answer ≡ answer) }
-    ensures refusal { IfOk result (λ said. IsRefusal answer said.text.items said.history.items) }
-{
-    Ok(Said {
-        answer,
-        text: line(alloc, answer)?,
-        history: Vec::new(alloc),
-    })
-}
-
 // Runs a program and reports it. No form that is built has a forward or a payment, so any plan serves.
-fn report(alloc: Global, program: &Program) -> Result<Made, AllocError>
+fn report(alloc: Global, program: &Program, budget: u32, trace: bool) -> Result<Made, AllocError>
     requires { CanStart program.now }
-    ensures { IfOk result (λ r. IsReport BUDGET program.now r.outcome r.text.items r.history.items) }
+    ensures { IfOk result (λ r. IsReport budget trace program.now r.outcome r.text.items r.history.items) }
 {
     let plan = Plan {
         positive: Items::new(alloc),
         paid: Items::new(alloc),
     };
-    let (config, history) = rast_core::run(alloc, program, plan, BUDGET)?;
-    let outcome = config.outcome(program, history.len() as u32, BUDGET);
-    let text = report_text(alloc, program, outcome, &config, &history)?;
+    let (config, history) = rast_core::run(alloc, program, plan, budget)?;
+    let outcome = config.outcome(program, history.len() as u32, budget);
+    let text = report_text(alloc, program, outcome, &config, &history, trace, true)?;
     Ok(Made {
         outcome,
         text,
@@ -79,17 +45,16 @@ fn report(alloc: Global, program: &Program) -> Result<Made, AllocError>
     })
 }
 
-// What words and files call for.
-pub(crate) fn say<F: Files>(
+// What a run of the file `name` calls for.
+pub(crate) fn say_run<F: Files>(
     alloc: Global,
-    words: &[String],
+    name: &str,
+    budget: u32,
+    trace: bool,
     files: &mut F,
 ) -> Result<Said, AllocError>
-    ensures { IfOk result (λ said. Comes BUDGET LIMIT (map string_bytes words.now) (F.held files.old) (Rose (F.faults files.old) (F.faults files.new)) (F.faults files.new ≡ F.faults files.old) said.answer said.text.items said.history.items) }
+    ensures { IfOk result (λ said. RunComes LIMIT (F.held files.old) (Rose (F.faults files.old) (F.faults files.new)) (F.faults files.new ≡ F.faults files.old) name.now budget trace said.answer said.text.items said.history.items) }
 {
-    let Some(name) = file_name(words) else {
-        return refuse(alloc, Answer::Usage);
-    };
     let bytes = match read_all(alloc, files, name) {
         Ok(bytes) => bytes,
         Err(ReadErr::Fault) => return refuse(alloc, Answer::ReadFault),
@@ -106,7 +71,7 @@ pub(crate) fn say<F: Files>(
         outcome,
         text,
         history,
-    } = report(alloc, &program)?;
+    } = report(alloc, &program, budget, trace)?;
     Ok(Said {
         answer: Answer::Ran(outcome),
         text,

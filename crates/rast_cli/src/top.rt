@@ -1,19 +1,23 @@
 // The top call.
-ghost use Rattle.std.specs.Prelude.{◌≡◌, ◌⊎◌, ◌≤◌, List, ℕ, length, take, map, string_bytes, codes, []};
+ghost use Rattle.std.specs.Prelude.{◌≡◌, ◌⊎◌, Bool, List, ℕ, take, map, string_bytes, codes, [], IfOk};
 ghost use Rattle.std.specs.Io.KnownBytes.{Appends};
 ghost use Rattle.rast_io.specs.Causes.{Rose};
-ghost use Rattle.rast_items.specs.declared.link.Pid.{Pid};
+ghost use Rattle.rast_words.specs.Asks.{AsksRun, AsksShow, AsksWhether};
 ghost use Rattle.rast_cli.specs.declared.answer.Answer.{Answer};
-ghost use Rattle.rast_core.specs.declared.answer.Outcome.TheVariants.{Finished, OutOfBudget, IndexLimit, Blocked};
 ghost use Rattle.rast_cli.specs.Lines.{code_of};
-ghost use Rattle.rast_cli.specs.Asked.{Asks, IsTooLong, IsNoProgram, AsksForProgram};
-ghost use Rattle.rast_cli.specs.Answered.{Comes, Ends, IsPrinted, IsRunStatus};
+ghost use Rattle.rast_cli.specs.Answered.{Comes, Ends, IsUsage};
+ghost use Rattle.rast_cli.specs.Rows.{RunEnds, ShowEnds, DecideEnds, IsRunStatus};
+ghost use Rattle.rast_cli.specs.Held.{AsksForProgram, AsksForFile};
 
 use crate::answer::{Answer, code};
-use crate::run::{BUDGET, say};
+use crate::decide::say_decision;
+use crate::run::say_run;
+use crate::said::{Said, refuse};
+use crate::show::say_text;
 use rast_io::{Files, LIMIT, Sink, write_all};
 use rast_items::Event;
-use std::alloc::Global;
+use rast_words::{Command, WordsErr, command};
+use std::alloc::{AllocError, Global};
 
 /// How the program ended, and the run that was reported or was to be reported.
 #[derive(Drop)]
@@ -41,34 +45,58 @@ fn want<O: Sink>(out: &mut O)
     let _written = write_all(out, b"want of memory\n");
 }
 
-/// All that the program does: it reads the file that `words` name, runs its program and writes the report to `out`.
+// What words and files call for.
+fn say<F: Files>(alloc: Global, words: &[String], files: &mut F) -> Result<Said, AllocError>
+    ensures { IfOk result (λ said. Comes LIMIT (map string_bytes words.now) (F.held files.old) (Rose (F.faults files.old) (F.faults files.new)) (F.faults files.new ≡ F.faults files.old) said.answer said.text.items said.history.items) }
+{
+    match command(alloc, words) {
+        Ok(
+            Command::Run {
+                file,
+                budget,
+                trace,
+            },
+        ) => say_run(alloc, file, budget, trace, files),
+        Ok(Command::Show { file }) => say_text(alloc, file, files),
+        Ok(Command::Decide { formula }) => say_decision(alloc, formula),
+        Err(WordsErr::Usage) => refuse(alloc, Answer::Usage),
+        Err(WordsErr::Memory) => Err(AllocError),
+    }
+}
+
+/// All that the program does: what the words ask for, with the text that comes of it on `out`.
 ///
-/// `words` begins with the program's name. Statuses: 0 finished, 1 refused, 2 usage, 3 a read fault, 4 a write fault,
-/// 6 out of budget, 7 an index of 2^64 or more, 8 want of memory, 9 too long, 10 blocked.
+/// `run FILE` reads the file, runs its program and writes the report; `--budget N` lets it do at most so many events, and
+/// `--trace` writes the events too. `show FILE` writes the file's canonical text. `decide FORMULA` writes whether the
+/// formula holds.
+///
+/// `words` begins with the program's name. Statuses: 0 finished, shown or true, 1 refused or false, 2 usage, 3 a read
+/// fault, 4 a write fault, 5 a bound, 6 out of budget, 7 an index of 2^64 or more, 8 want of memory, 9 too long,
+/// 10 blocked.
 pub fn rast<F: Files, O: Sink>(alloc: Global, words: &[String], files: &mut F, out: &mut O) -> Exit
     ensures answered { (result.status ≡ 8) ⊎ ((answer : Answer) × (text : List ℕ)
-        × Comes BUDGET LIMIT (map string_bytes words.now) (F.held files.old) (Rose (F.faults files.old) (F.faults files.new)) (F.faults files.new ≡ F.faults files.old) answer text result.history.items
+        × Comes LIMIT (map string_bytes words.now) (F.held files.old) (Rose (F.faults files.old) (F.faults files.new)) (F.faults files.new ≡ F.faults files.old) answer text result.history.items
         × Ends (O.told out.old) (O.told out.new) (O.faults out.old) (O.faults out.new) text (code_of answer) result.status) }
 
-    // A run to its end, or to its budget, and its report.
-    ensures finished { result.status ≡ 0 → IsPrinted BUDGET LIMIT (map string_bytes words.now) (F.held files.old) (O.told out.old) (O.told out.new) Finished result.history.items }
-    ensures out_of_budget { result.status ≡ 6 → IsPrinted BUDGET LIMIT (map string_bytes words.now) (F.held files.old) (O.told out.old) (O.told out.new) OutOfBudget result.history.items }
+    // What the status says, for each command.
+    ensures run { (name : List ℕ) (budget : ℕ) (trace : Bool) → AsksRun (map string_bytes words.now) name budget trace
+        → RunEnds LIMIT (F.held files.old) (O.told out.old) (O.told out.new) name budget trace result.history.items result.status }
+    ensures show { (name : List ℕ) → AsksShow (map string_bytes words.now) name
+        → ShowEnds LIMIT (F.held files.old) (O.told out.old) (O.told out.new) name result.status }
+    ensures decide { (formula : List ℕ) → AsksWhether (map string_bytes words.now) formula
+        → DecideEnds LIMIT (O.told out.old) (O.told out.new) formula result.status }
 
-    ensures index_limit { result.status ≡ 7 → (pid : Pid) × (value : ℕ) × IsPrinted BUDGET LIMIT (map string_bytes words.now) (F.held files.old) (O.told out.old) (O.told out.new) (IndexLimit pid value) result.history.items }
-    ensures blocked { result.status ≡ 10 → IsPrinted BUDGET LIMIT (map string_bytes words.now) (F.held files.old) (O.told out.old) (O.told out.new) Blocked result.history.items }
-
-    // Refusals and faults, with their causes.
-    ensures not_yet { result.status ≡ 1 → IsNoProgram LIMIT (map string_bytes words.now) (F.held files.old) }
-    ensures usage { result.status ≡ 2 → (name : List ℕ) → Asks (map string_bytes words.now) name → ⊥ }
+    // Usage, faults and want of memory, with their causes.
+    ensures usage { result.status ≡ 2 → IsUsage (map string_bytes words.now) }
     ensures read_fault { result.status ≡ 3 → Rose (F.faults files.old) (F.faults files.new) }
     ensures write_fault { result.status ≡ 4 → Rose (O.faults out.old) (O.faults out.new) }
-    ensures too_long { result.status ≡ 9 → IsTooLong LIMIT (map string_bytes words.now) (F.held files.old) × (F.faults files.new ≡ F.faults files.old) }
-
     ensures wanting { result.status ≡ 8 → (result.history.items ≡ []) × ((n : ℕ) × Appends (O.told out.old) (O.told out.new) (take n (codes "want of memory\n"))) }
 
-    // A program that is told is run, where no fault comes and memory suffices.
-    ensures complete { AsksForProgram LIMIT (map string_bytes words.now) (F.held files.old) → (Rose (F.faults files.old) (F.faults files.new) → ⊥) → (Rose (O.faults out.old) (O.faults out.new) → ⊥)
+    // Where no fault comes and memory suffices, a program that is told is run, and a file that is told is shown.
+    ensures runs { AsksForProgram LIMIT (map string_bytes words.now) (F.held files.old) → (Rose (F.faults files.old) (F.faults files.new) → ⊥) → (Rose (O.faults out.old) (O.faults out.new) → ⊥)
         → (result.status ≡ 8) ⊎ IsRunStatus result.status }
+    ensures shows { AsksForFile LIMIT (map string_bytes words.now) (F.held files.old) → (Rose (F.faults files.old) (F.faults files.new) → ⊥) → (Rose (O.faults out.old) (O.faults out.new) → ⊥)
+        → (result.status ≡ 8) ⊎ (result.status ≡ 0) }
 {
     let Ok(said) = say(alloc, words, files) else {
         want(out);

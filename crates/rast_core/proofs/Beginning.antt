@@ -48,3 +48,7 @@ main_missing g m c = none_some (subst (λ (o : Option State). IsSome o) (ap (sta
 
 pub decl_missing : (g : Program) (k : ℕ) → g.main ≡ Some k → slice_get g.decls k ≡ None → CanStart g → ⊥
 decl_missing g k m h c = none_some (subst (λ (o : Option State). IsSome o) (ap (start_main g) m ∙ ap (start_decl k) h) c)
+
+-- a declaration with a natural potential begins
+pub natural_starts : (k : ℕ) (o : Option Decl) (d : Decl) (q : ℕ) → o ≡ Some d → d.potential.constant ≡ pos q → IsSome (start_decl k o)
+natural_starts k o d q h n = subst (λ (s : Option State). IsSome s) (sym (ap (start_decl k) h ∙ ap (start k d) (value_none d.potential ∙ n))) refl

@@ -10,13 +10,13 @@ use Rattle.rast_core.specs.Words.{Link, Pid, Msg, Item, P, M, Proc, Event, Send,
 use Rattle.rast_items.specs.Items.{same_pid, pid_at, link_at, total, held, potential_of}
 use Rattle.rast_items.specs.Deeds.{Code, deed}
 use Rattle.rast_items.specs.Step.{Cut, cut, cut_more, is_proc, Next, Ready, Waits, Halted, Ended, Stuck, does, at_item, at_cut, step}
-use Rattle.rast_items.specs.Run.{numbered_as, born, Birth}
+use Rattle.rast_items.specs.Run.{numbered_as, born, Birth, work_by}
 use Rattle.rast_items.specs.Slack.{IsOpen, HasSlack, IsItemSlack}
 use Rattle.rast_core.specs.Shown.{Shown, origin, code_of, next_of}
 use Rattle.rast_core.specs.Bounds.{IsBounded}
 use Rattle.rast_core.specs.Promises.{Leaves}
 use Rattle.rast_core.specs.declared.answer.Next.TheVariants.{Ready as NReady}
-use Rattle.rast_core.specs.Edits.{IsCutAt, Decides, edited, IsApt, IsStepEdit}
+use Rattle.rast_core.specs.Edits.{IsCutAt, StandsAt, Decides, edited, IsApt, IsStepEdit}
 use Rattle.rast_core.specs.declared.origin.Origin.{Origin}
 use Rattle.rast_core.specs.declared.decision.Edit.{Edit}
 use Rattle.rast_core.specs.declared.decision.Decision.{Decision}
@@ -50,6 +50,9 @@ unique_place pid (y ∷ xs) (suc i) x h g t =
 
 pub unique_cut : (pid : Pid) (xs : List Item) (i : ℕ) (x : Item) → total (numbered_as pid) xs ≤ 1 → slice_get xs i ≡ Some x → is_proc pid x ≡ true → IsCutAt (is_proc pid) xs i
 unique_cut pid xs i x h g t = cut_at (is_proc pid) xs i x (unique_place pid xs i x h g t) g t
+
+pub stands_cut : (pid : Pid) (xs : List Item) (i : ℕ) → total (numbered_as pid) xs ≤ 1 → StandsAt (is_proc pid) xs i → IsCutAt (is_proc pid) xs i
+stands_cut pid xs i h s = unique_cut pid xs i s.item h s.get s.is
 
 -- ---- the step of the process at a place
 
@@ -200,3 +203,16 @@ pub decided_here : (g : Program) (v : Shown) (xs : List Item) (i k : ℕ) (p : P
 decided_here g v xs i k p r e n t h d =
     let s : next_of g v p.pid ≡ does (code_of g v) (take i xs) p (drop (i + 1) xs) (deed (code_of g v) k p) = ap₂ (λ (m : ℕ) (ys : List Item). step (code_of g v) m p.pid ys) (sym n) (sym e) ∙ step_at (code_of g v) k p.pid xs i p t h in
     subst (λ (ys : List Item). Decides (next_of g v p.pid) ys i r) e (subst (λ (x : Next). Decides x xs i r) (sym s) d)
+
+spent_by : (c : Code) (pid : Pid) (items : List Item) (i made spare : ℕ) (event : Event) (edit : Edit) (child : Option Origin) (n : Next) → step c made pid items ≡ n → Decides n items i (Do event edit child) → IsBounded items made spare →
+    work_by event + held (edited edit items i) ≤ held items
+spent_by c pid items i made spare event edit child (Ready e new) t d b =
+    let h = step_holds c spare made pid items new e (omega (arith, b.room)) b.slack t in
+    omega (arith, h.potential, ap work_by d.0, ap held d.1)
+spent_by c pid items i made spare event edit child (Waits l) t d b = absurd d
+spent_by c pid items i made spare event edit child (Halted v) t d b = absurd d
+spent_by c pid items i made spare event edit child Ended t d b = absurd d
+spent_by c pid items i made spare event edit child Stuck t d b = absurd d
+
+pub edit_spent : (v : Shown) (i : ℕ) (edit : Edit) (child : Option Origin) (k : IsStepEdit v i edit child) → IsBounded v.items (length v.origins) v.spare → work_by k.event + held (edited edit v.items i) ≤ held v.items
+edit_spent v i edit child k b = spent_by k.code k.pid v.items i (length v.origins) v.spare k.event edit child (step k.code (length v.origins) k.pid v.items) refl k.decides b

@@ -12,3 +12,6 @@ pub mod StepPids
 pub mod RunLemmas
 pub mod LookLemmas
 pub mod TurnLemmas
+pub mod PickLemmas
+pub mod PathLemmas
+pub mod OrderLemmas

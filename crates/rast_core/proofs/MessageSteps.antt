@@ -2,7 +2,7 @@
 use Rattle.std.proofs.Common.{◌≡◌, ℕ, zero, suc, Bool, true, false, ◌+◌, ◌-◌, ◌<◌, ◌≤◌, List, [], ◌∷◌, ◌++◌, Option, Some, None, refl, sym, ap, ◌∙◌, subst, arith, length, take, drop, get_or, set, remove}
 use Rattle.std.specs.Prelude.{slice_get}
 use Rattle.std.proofs.lemmas.Option.{get_or_from_slice_get, slice_get_within, slice_get_read}
-use Rattle.std.proofs.lemmas.List.{length-take, length-drop}
+use Rattle.std.proofs.lemmas.List.{length-take, length-drop, drop_more, drop_all}
 use Rattle.rast_terms.specs.declared.program.Program.{Program}
 use Rattle.rast_rules.specs.declared.judgement.Plan.{Plan}
 use Rattle.rast_core.specs.Words.{Link, Pid, Side, Client, Provider, Msg, Item, P, M, Proc, Event, Take, Move}
@@ -133,3 +133,10 @@ none_below items i p other wait d f h = subst (λ (o : Option Cut). Decides (mov
 -- the same with equal numbers
 pub hands_same : (x : Item) (j i : ℕ) (k l : Link) (a b : Pid) (d : Decision) → k ≡ l → a ≡ b → HandsOn x j i k a d → HandsOn x j i l b d
 hands_same x j i k l a b d e f h = subst (λ (o : Link). HandsOn x j i o b d) e (subst (λ (q : Pid). HandsOn x j i k q d) f h)
+
+-- what is held from a place on
+pub held_place : (xs : List Item) (i n : ℕ) (x : Item) → i < length xs → x ≡ get_or xs i x → n ≡ potential_of x → held (drop i xs) ≡ n + held (drop (i + 1) xs)
+held_place xs i n x l h e = ap held (drop_more xs i x l) ∙ omega (arith, e, ap potential_of h)
+
+pub held_end : (xs : List Item) (i : ℕ) → length xs ≤ i → held (drop i xs) ≡ 0
+held_end xs i h = ap held (drop_all i xs h)

@@ -28,7 +28,7 @@ pub record Went (g : Program) (old new : Shown) (pid : Pid) (e : Event) : Type 0
   pub plan_is : new.plan ≡ old.plan
   pub spare_is : new.spare + 1 ≡ old.spare
 
-ready_same : (e f : Event) → Ready e ≡ Ready f → e ≡ f
+pub ready_same : (e f : Event) → Ready e ≡ Ready f → e ≡ f
 ready_same e f h = cc
 
 pub went_by : (g : Program) (old new : Shown) (pid : Pid) (e : Event) (n : Does) → next_of g old pid ≡ n → Leaves n old (Ready e) new → Went g old new pid e
@@ -44,7 +44,7 @@ pub went : (g : Program) (old new : Shown) (pid : Pid) (e : Event) → StepIs g 
 went g old new pid e h = went_by g old new pid e (next_of g old pid) refl h
 
 -- the step in the state of which the configuration is the replay
-state_step : (g : Program) (v : Shown) (es : List Event) (st : State) (pid : Pid) → IsReplay g v es st → step_of (code_of g v) st pid ≡ next_of g v pid
+pub state_step : (g : Program) (v : Shown) (es : List Event) (st : State) (pid : Pid) → IsReplay g v es st → step_of (code_of g v) st pid ≡ next_of g v pid
 state_step g v es st pid r =
     let n : length st.births ≡ length v.origins = sym (length-map st.births origin) ∙ ap length (sym r.origins) in
     ap₂ (λ (k : ℕ) (xs : List Item). step (code_of g v) k pid xs) n (sym r.items)

@@ -1,17 +1,20 @@
 -- Runs that are under way.
-use Rattle.std.proofs.Common.{◌≡◌, ℕ, Bool, true, false, ◌+◌, ◌<◌, ◌≤◌, ◌==◌, List, [], ◌∷◌, ◌++◌, Option, Some, None, refl, sym, ap, ◌∙◌, subst, arith, length, if◌then◌else◌, eq-eqb}
+use Rattle.std.proofs.Common.{◌≡◌, ℕ, Bool, true, false, ◌+◌, ◌^◌, ◌<◌, ◌≤◌, ◌==◌, List, [], ◌∷◌, ◌++◌, Option, Some, None, refl, sym, ap, ◌∙◌, subst, arith, length, if◌then◌else◌, eq-eqb}
 use Rattle.std.proofs.lemmas.List.{length_push}
+use Rattle.std.proofs.lemmas.List.Sums.{sum_by_push}
 use Rattle.rast_terms.specs.declared.program.Program.{Program}
 use Rattle.rast_rules.specs.declared.judgement.Plan.{Plan}
 use Rattle.rast_core.specs.Words.{Pid, Item, P, M, Event}
 use Rattle.rast_items.specs.Step.{Next as Does, Ready as DReady, Waits as DWaits, Halted as DHalted, Ended as DEnded, Stuck as DStuck}
-use Rattle.rast_items.specs.Run.{State}
+use Rattle.rast_items.specs.Items.{held}
+use Rattle.rast_items.specs.Run.{State, work, work_by}
 use Rattle.rast_core.specs.Shown.{Shown, IsReplay, next_of, is_ready, some_ready, first_halted, halt_of, rest_outcome, are_poised, outcome}
 use Rattle.rast_core.specs.Promises.{CanStart, IsStart, Leaves, StepIs, IsTurn, IsFullRun}
 use Rattle.rast_core.specs.declared.answer.Next.{Next}
 use Rattle.rast_core.specs.declared.answer.Next.TheVariants.{Ready, Waits, Halted, Ended, Stuck}
 use Rattle.rast_core.specs.declared.answer.Outcome.{Outcome}
 use Rattle.rast_core.specs.declared.answer.Outcome.TheVariants.{Running, Finished, OutOfBudget, IndexLimit, Blocked}
+use Rattle.rast_core.proofs.OrderLemmas.{keeps_order}
 use Rattle.rast_core.proofs.RunLemmas.{Went, went, replay_more}
 
 -- a run of so many events, with room for the rest of a budget
@@ -21,14 +24,19 @@ pub record IsPartRun (g : Program) (plan : Plan) (budget : ℕ) (v : Shown) (es 
   pub plan_is : v.plan ≡ plan
   pub count : length es ≡ done
   pub room : v.spare + done ≡ budget
+  pub potential : work es + held v.items < 2 ^ 32
 
-pub part_begins : (g : Program) (plan : Plan) (budget : ℕ) (v : Shown) → IsStart g plan budget v → IsPartRun g plan budget v [] 0
-part_begins g plan budget v s = record { state = s.state; replayed = s.replayed; plan_is = s.plan_is; count = refl; room = omega (arith, s.room_is) }
+-- the work of one more event
+pub work_more : (es : List Event) (e : Event) → work (es ++ e ∷ []) ≡ work es + work_by e
+work_more es e = sum_by_push work_by es e
+
+pub part_begins : (g : Program) (plan : Plan) (budget : ℕ) (v : Shown) → IsStart g plan budget v → held v.items < 2 ^ 32 → IsPartRun g plan budget v [] 0
+part_begins g plan budget v s h = record { state = s.state; replayed = s.replayed; plan_is = s.plan_is; count = refl; room = omega (arith, s.room_is); potential = omega (arith, h) }
 
 pub part_goes_on : (g : Program) (plan : Plan) (budget : ℕ) (old new : Shown) (es : List Event) (done : ℕ) (e : Event) → IsPartRun g plan budget old es done → IsTurn g old (Some e) new → IsPartRun g plan budget new (es ++ e ∷ []) (done + 1)
 part_goes_on g plan budget old new es done e r t =
     let w = went g old new t.0 e t.1 in
-    record { state = _; replayed = replay_more g old new es r.state t.0 e r.replayed w; plan_is = w.plan_is ∙ r.plan_is; count = omega (arith, length_push es e, r.count); room = omega (arith, r.room, w.spare_is) }
+    record { state = _; replayed = replay_more g old new es r.state t.0 e r.replayed w; plan_is = w.plan_is ∙ r.plan_is; count = omega (arith, length_push es e, r.count); room = omega (arith, r.room, w.spare_is); potential = omega (arith, r.potential, work_more es e, t.2) }
 
 -- ---- how it ends
 
@@ -63,11 +71,11 @@ used_ends g v false c h = halted_ends g v v.items (rest_outcome g v) (rest_ends 
 
 pub run_quiet : (g : Program) (plan : Plan) (budget : ℕ) (old new : Shown) (es : List Event) (done : ℕ) → IsPartRun g plan budget old es done → IsTurn g old None new → IsFullRun g plan budget new es
 run_quiet g plan budget old new es done r t =
-    subst (λ (v : Shown). IsFullRun g plan budget v es) (sym t.0) (record { state = r.state; replayed = r.replayed; plan_is = r.plan_is; few = omega (arith, r.count, r.room); decided = quiet_ends g old (length es) budget (some_ready g old old.items) t.1 })
+    subst (λ (v : Shown). IsFullRun g plan budget v es) (sym t.0) (record { state = r.state; replayed = r.replayed; plan_is = r.plan_is; ordered = keeps_order g plan old es r.state r.replayed r.plan_is; few = omega (arith, r.count, r.room); potential = r.potential; decided = quiet_ends g old (length es) budget (some_ready g old old.items) t.1 })
 
 pub run_used : (g : Program) (plan : Plan) (budget : ℕ) (v : Shown) (es : List Event) (done : ℕ) → IsPartRun g plan budget v es done → budget ≤ done → IsFullRun g plan budget v es
 run_used g plan budget v es done r h =
-    record { state = r.state; replayed = r.replayed; plan_is = r.plan_is; few = omega (arith, r.count, r.room); decided = used_ends g v (some_ready g v v.items) (length es == budget) (eq-eqb (length es) budget (omega (arith, r.count, r.room, h))) }
+    record { state = r.state; replayed = r.replayed; plan_is = r.plan_is; ordered = keeps_order g plan v es r.state r.replayed r.plan_is; few = omega (arith, r.count, r.room); potential = r.potential; decided = used_ends g v (some_ready g v v.items) (length es == budget) (eq-eqb (length es) budget (omega (arith, r.count, r.room, h))) }
 
 -- ---- one turn
 

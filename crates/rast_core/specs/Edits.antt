@@ -1,5 +1,5 @@
 -- What a step does to the list of items, by places.
-use Rattle.std.specs.Prelude.{◌≡◌, ℕ, ◌+◌, ◌<◌, Bool, List, [], ◌∷◌, ◌++◌, Option, Some, None, slice_get, take, drop, length, map, insert, remove, slice_set, option_to_list}
+use Rattle.std.specs.Prelude.{◌≡◌, ℕ, ◌+◌, ◌<◌, Bool, true, List, [], ◌∷◌, ◌++◌, Option, Some, None, slice_get, take, drop, length, map, insert, remove, slice_set, option_to_list}
 use Rattle.rast_core.specs.Words.{Event, Item, P, M, Pid, Link, Msg, Proc, Move}
 use Rattle.rast_items.specs.Step.{Cut, cut, put_beside, rest_items, moved, step, Next as Does, Ready as DReady, Waits as DWaits, Halted as DHalted, Ended as DEnded, Stuck as DStuck}
 use Rattle.rast_items.specs.Run.{born}
@@ -18,6 +18,12 @@ pub record IsCutAt (test : Item → Bool) (items : List Item) (i : ℕ) : Type 0
   pub item : Item
   pub get : slice_get items i ≡ Some item
   pub is : cut test items ≡ Some (record { before = take i items; item = item; after = drop (i + 1) items })
+
+-- an item that passes the test stands at place i
+pub record StandsAt (test : Item → Bool) (items : List Item) (i : ℕ) : Type 0 where
+  pub item : Item
+  pub get : slice_get items i ≡ Some item
+  pub is : test item ≡ true
 
 -- the list after an edit for the process at place i
 abbrev pub edited : Edit → List Item → ℕ → List Item

@@ -4,3 +4,4 @@ pub mod Promises
 pub mod Edits
 pub mod Bounds
 pub mod Looks
+pub mod Paths

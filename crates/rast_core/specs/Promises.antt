@@ -1,12 +1,14 @@
 -- What the calls promise that begin, look at and change configurations.
-use Rattle.std.specs.Prelude.{◌≡◌, false, ℕ, ℤ, pos, ◌+◌, ◌≤◌, List, [], ◌∷◌, ◌++◌, map, length, take, Option, Some, None, slice_get, IsSome}
+use Rattle.std.specs.Prelude.{◌≡◌, false, ℕ, ℤ, pos, ◌+◌, ◌≤◌, ◌<◌, ◌^◌, List, [], ◌∷◌, ◌++◌, map, length, take, Option, Some, None, slice_get, IsSome}
 use Rattle.rast_terms.specs.declared.program.Program.{Program}
 use Rattle.rast_rules.specs.declared.judgement.Plan.{Plan}
 use Rattle.rast_core.specs.Words.{Pid, Item, P, Proc, Event}
+use Rattle.rast_items.specs.Items.{held}
 use Rattle.rast_items.specs.Deeds.{Code}
 use Rattle.rast_items.specs.Step.{Next as Does, Ready as DReady, Waits as DWaits, Halted as DHalted, Ended as DEnded, Stuck as DStuck}
-use Rattle.rast_items.specs.Run.{State, Birth, IsRun, start_of, replay, step_of, pid_of, born}
-use Rattle.rast_core.specs.Shown.{Shown, IsReplay, origin, run_code, next_of, some_ready, outcome}
+use Rattle.rast_items.specs.Run.{State, Birth, IsRun, IsOrdered, start_of, replay, step_of, pid_of, born, work, work_by}
+use Rattle.rast_order.specs.Apart.{StaysApart}
+use Rattle.rast_core.specs.Shown.{Shown, IsReplay, origin, run_code, code_of, next_of, some_ready, outcome}
 use Rattle.rast_core.specs.declared.answer.Next.{Next}
 use Rattle.rast_core.specs.declared.answer.Next.TheVariants.{Ready, Waits, Halted, Ended, Stuck}
 use Rattle.rast_core.specs.declared.decision.Decision.{Decision}
@@ -62,10 +64,19 @@ Leaves DStuck old r new = (r ≡ Stuck) × (new ≡ old)
 abbrev pub StepIs : Program → Shown → Pid → Next → Shown → Type 0
 StepIs g old pid r new = Leaves (next_of g old pid) old r new
 
+-- On each session the messages taken in this run are, in order and each once, the beginning of those sent: wherever no state
+-- of the run has two messages on one link.
+abbrev pub KeepsOrder : Code → List Event → Type 0
+KeepsOrder c es = StaysApart c es → IsOrdered es
+
+-- said of every run of which the configuration was the replay before the step
+abbrev pub StepKeepsOrder : Program → Shown → Next → Shown → Type 0
+StepKeepsOrder g old r new = (es : List Event) (st : State) (e : Event) → IsReplay g old es st → r ≡ Ready e → KeepsOrder (code_of g new) (es ++ e ∷ [])
+
 -- one more event of some process; or nothing changed, and no process has an event
 abbrev pub IsTurn : Program → Shown → Option Event → Shown → Type 0
 IsTurn g old None new = (new ≡ old) × (some_ready g old old.items ≡ false)
-IsTurn g old (Some e) new = (pid : Pid) × StepIs g old pid (Ready e) new
+IsTurn g old (Some e) new = (pid : Pid) × StepIs g old pid (Ready e) new × (work_by e + held new.items ≤ held old.items)
 
 -- a run to its end, or to its budget
 pub record IsFullRun (g : Program) (plan : Plan) (budget : ℕ) (v : Shown) (es : List Event) : Type 0 where
@@ -73,6 +84,8 @@ pub record IsFullRun (g : Program) (plan : Plan) (budget : ℕ) (v : Shown) (es 
   pub replayed : IsReplay g v es state
   pub plan_is : v.plan ≡ plan
   pub few : length es ≤ budget
+  pub potential : work es + held v.items < 2 ^ 32
+  pub ordered : KeepsOrder (run_code g plan) es
   pub decided : outcome g v (length es) budget ≡ Running → ⊥
 
 -- the run of a list of picks
@@ -81,6 +94,8 @@ pub record Replayed (g : Program) (plan : Plan) (picks : List Pid) (v : Shown) (
   pub replayed : IsReplay g v es state
   pub plan_is : v.plan ≡ plan
   pub picks_are : map pid_of es ≡ picks
+  pub potential : work es + held v.items < 2 ^ 32
+  pub ordered : KeepsOrder (run_code g plan) es
 
 -- the picks before number k are a run, and the process of pick k has no event after it
 pub record StopsAtPick (c : Code) (picks : List Pid) (k : ℕ) : Type 0 where

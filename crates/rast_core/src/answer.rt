@@ -1,5 +1,6 @@
 // What the calls answer.
 use rast_items::{Event, Link, Pid};
+use std::alloc::{AllocError, AllocFailed};
 
 /// What a process does next.
 #[derive(Clone, Copy, Debug, PartialEq, Eq)]
@@ -38,4 +39,26 @@ pub enum ReplayErr {
     At { place: u32 },
     /// There is no memory.
     Memory,
+}
+
+impl From<AllocError> for ReplayErr {
+    ghost use Rattle.std.specs.Prelude.{◌≡◌};
+    ghost use Rattle.rast_core.specs.declared.answer.ReplayErr.TheVariants.{Memory};
+
+    ghost from_gives = { λ _ e. e ≡ Memory };
+
+    fn from(_: AllocError) -> ReplayErr {
+        ReplayErr::Memory
+    }
+}
+
+impl<T: Drop> From<AllocFailed<T>> for ReplayErr {
+    ghost use Rattle.std.specs.Prelude.{◌≡◌};
+    ghost use Rattle.rast_core.specs.declared.answer.ReplayErr.TheVariants.{Memory};
+
+    ghost from_gives = { λ _ e. e ≡ Memory };
+
+    fn from(_: AllocFailed<T>) -> ReplayErr {
+        ReplayErr::Memory
+    }
 }

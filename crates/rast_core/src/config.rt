@@ -1,20 +1,23 @@
 // A configuration as a plain list.
-ghost use Rattle.std.specs.Prelude.{◌≡◌, ◌≤◌, ◌<◌, ◌+◌, ◌++◌, IfOk, MatchOption, None, Some, slice_get, length, option_to_list};
+ghost use Rattle.std.specs.Prelude.{◌≡◌, ◌≤◌, ◌<◌, ◌+◌, ◌^◌, ◌++◌, IfOk, MatchOption, None, Some, slice_get, length, option_to_list};
 ghost use Rattle.rast_items.specs.Step.{Ended, cut, is_proc};
 ghost use Rattle.rast_items.specs.Deeds.{deed};
 ghost use Rattle.rast_items.specs.Ends.{is_poised, waits_for_client};
 ghost use Rattle.rast_items.specs.Slack.{HasSlack};
-ghost use Rattle.rast_core.specs.Words.{Item};
+ghost use Rattle.rast_items.specs.Items.{held, potential_of};
+ghost use Rattle.rast_items.specs.Run.{work_by};
+ghost use Rattle.rast_core.specs.Words.{Item, Event};
 ghost use Rattle.rast_core.specs.Shown.{next_of, code_of, run_code};
 ghost use Rattle.rast_core.specs.Looks.{IsNextAt};
+ghost use Rattle.rast_core.specs.Paths.{AreAfterParents};
 ghost use Rattle.rast_core.specs.Edits.{Decides, IsCutAt, IsStepEdit, edited};
-ghost use Rattle.rast_core.specs.Promises.{CanStart, IsStart, EnabledIs, StepIs, IsTold};
+ghost use Rattle.rast_core.specs.Promises.{CanStart, IsStart, EnabledIs, StepIs, IsTold, StepKeepsOrder};
 
 use crate::answer::Next;
 use crate::decide::decide;
 use crate::decision::{Decision, Edit};
 use crate::edit::{apply, note};
-use crate::find::{find_process, is_process};
+use crate::find::{find_near, find_process};
 use crate::main_process::begin;
 use crate::origin::Origin;
 use rast_items::{Action, Item, Pid, Proc, Side, next_action};
@@ -31,7 +34,7 @@ pub struct Config {
     origins: Vec<Origin>,
     plan: Plan,
     spare: u32,
-    /// A place at which the process may stand that is asked for next.
+    /// A place near which the process may stand that is asked for next.
     last: usize,
 }
 
@@ -42,10 +45,11 @@ impl Model for Config {
     ghost Value = { Shown };
 
     ghost use Rattle.rast_core.specs.Bounds.{IsBounded};
+    ghost use Rattle.rast_core.specs.Paths.{AreAfterParents};
 
     ghost view = { λ c. record { items = c.items.items; origins = c.origins.items; plan = c.plan; spare = c.spare } };
 
-    ghost invariant = { λ c. (vec_len c.items + c.spare ≤ vec_capacity c.items) × (vec_len c.origins + c.spare ≤ vec_capacity c.origins) × IsBounded c.items.items (length c.origins.items) c.spare };
+    ghost invariant = { λ c. (vec_len c.items + c.spare ≤ vec_capacity c.items) × (vec_len c.origins + c.spare ≤ vec_capacity c.origins) × IsBounded c.items.items (length c.origins.items) c.spare × AreAfterParents c.origins.items };
 }
 
 impl Config {
@@ -58,7 +62,8 @@ impl Config {
         room: u32,
     ) -> Result<Config, AllocError>
         requires { CanStart program.now }
-        ensures { IfOk result (λ c. IsStart program.now plan room c) }
+        ensures start { IfOk result (λ c. IsStart program.now plan room c) }
+        ensures potential { IfOk result (λ c. held c.items < 2 ^ 32) }
     {
         if room > u32::MAX - 64 {
             return Err(AllocError);
@@ -94,6 +99,32 @@ impl Config {
         &self.items
     }
 
+    /// How many processes were made; they have the numbers below it. Some may have ended.
+    pub fn made(&self) -> u32
+        ensures { result ≡ length self.now.origins }
+    {
+        self.origins.as_slice().len() as u32
+    }
+
+    /// Where each process that was made comes from, by its number.
+    pub(crate) fn origins(&self) -> &[Origin]
+        ensures value { result.now ≡ self.now.origins }
+        ensures parents { AreAfterParents self.now.origins }
+    {
+        &self.origins
+    }
+
+    /// The potential that all items hold together. It takes no memory.
+    pub fn held(&self) -> u128
+        ensures { result ≡ held self.now.items }
+    {
+        let mut total = 0u128;
+        for item in &self.items {
+            total += potential_of(item);
+        }
+        total
+    }
+
     /// What a process does next. It takes no memory.
     pub fn enabled(&self, program: &Program, pid: Pid) -> Next
         ensures { EnabledIs program.now self.now pid result }
@@ -107,7 +138,20 @@ impl Config {
     /// Does the next event of a process, if it has one; else nothing changes. It takes no memory.
     pub fn step(&mut self, program: &Program, pid: Pid) -> Next
         requires { 1 ≤ self.old.spare }
-        ensures { StepIs program.now self.old pid result self.new }
+        ensures step { StepIs program.now self.old pid result self.new }
+        // An event takes potential from the items, and gives them none.
+        ensures potential { (e : Event) → result ≡ Next.Ready e → work_by e + held self.new.items ≤ held self.old.items }
+        // On each session messages are taken in the order in which they are sent.
+        ensures ordered { StepKeepsOrder program.now self.old result self.new }
+    {
+        self.do_next(program, pid)
+    }
+
+    // Does the next event of a process.
+    fn do_next(&mut self, program: &Program, pid: Pid) -> Next
+        requires { 1 ≤ self.old.spare }
+        ensures step { StepIs program.now self.old pid result self.new }
+        ensures potential { (e : Event) → result ≡ Next.Ready e → work_by e + held self.new.items ≤ held self.old.items }
     {
         let Some((place, decision)) = self.decided(program, pid) else {
             return Next::Ended;
@@ -151,10 +195,7 @@ impl Config {
         ensures { (item : Item) → slice_get self.now.items place ≡ Some item → result ≡ is_poised (code_of program.now self.now) (length self.now.origins) item }
     {
         match self.item_at(place) {
-            Item::Proc(proc) => {
-                let made = self.origins.as_slice().len() as u32;
-                waits_for_client(program, &self.plan, made, proc)
-            }
+            Item::Proc(proc) => { waits_for_client(program, &self.plan, self.made(), proc) }
             Item::Msg(msg) => msg.toward.is(Side::Client),
         }
     }
@@ -164,8 +205,7 @@ impl Config {
         requires { slice_get self.now.items place ≡ Some (Item.Proc proc.now) }
         ensures { Decides (next_of program.now self.now proc.now.pid) self.now.items place result }
     {
-        let made = self.origins.as_slice().len() as u32;
-        decide(program, &self.plan, made, &self.items, place, proc)
+        decide(program, &self.plan, self.made(), &self.items, place, proc)
     }
 
     /// The item at a place.
@@ -180,10 +220,10 @@ impl Config {
     fn place_of(&self, pid: Pid) -> Option<usize>
         ensures { MatchOption result (cut (is_proc pid) self.now.items ≡ None) (λ i. IsCutAt (is_proc pid) self.now.items i) }
     {
-        if self.last < self.items.len() && is_process(&self.items[self.last], pid) {
-            return Some(self.last);
+        match find_near(&self.items, pid, self.last) {
+            Some(place) => Some(place),
+            None => find_process(&self.items, pid),
         }
-        find_process(&self.items, pid)
     }
 
     /// Changes the list for the process at a place, and notes where a child comes from.
@@ -195,12 +235,23 @@ impl Config {
         ensures origins { self.new.origins ≡ self.old.origins ++ option_to_list child }
         ensures plan { self.new.plan ≡ self.old.plan }
         ensures spare { self.new.spare + 1 ≡ self.old.spare }
+        ensures potential { (k : IsStepEdit self.old place edit child) → work_by k.event + held self.new.items ≤ held self.old.items }
     {
         let last = place_after(place, &edit);
         apply(&mut self.items, place, edit);
         note(&mut self.origins, child);
         self.spare -= 1;
         self.last = last;
+    }
+}
+
+/// The potential that an item holds.
+fn potential_of(item: &Item) -> u128
+    ensures { result ≡ potential_of item.now }
+{
+    match item {
+        Item::Proc(proc) => proc.potential,
+        Item::Msg(msg) => msg.potential,
     }
 }
 
@@ -230,7 +281,7 @@ pub(crate) fn told(decision: Decision) -> Next
     }
 }
 
-/// A place at which the process may stand after an edit.
+/// A place near which the process may stand that is asked for after an edit.
 fn place_after(place: usize, edit: &Edit) -> usize {
     match edit {
         Edit::Two {

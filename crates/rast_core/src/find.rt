@@ -1,7 +1,7 @@
 // Items in a list.
-ghost use Rattle.std.specs.Prelude.{◌≡◌, MatchOption, None};
+ghost use Rattle.std.specs.Prelude.{◌≡◌, MatchOption, IfSome, None, true};
 ghost use Rattle.rast_items.specs.Step.{cut, is_proc, is_msg};
-ghost use Rattle.rast_core.specs.Edits.{IsCutAt};
+ghost use Rattle.rast_core.specs.Edits.{IsCutAt, StandsAt};
 
 use rast_items::{Item, Link, Pid, Side};
 
@@ -17,6 +17,34 @@ pub(crate) fn find_process(items: &[Item], pid: Pid) -> Option<usize>
     None
 }
 
+/// A place of a process, looked for farther and farther from a place on both sides.
+/// Most steps are of a process that stands near the one that did the step before.
+pub(crate) fn find_near(items: &[Item], pid: Pid, place: usize) -> Option<usize>
+    ensures { IfSome result (λ i. StandsAt (is_proc pid) items.now i) }
+{
+    for distance in 0..items.len() {
+        let after = place.saturating_add(distance);
+        if stands_at(items, pid, after) {
+            return Some(after);
+        }
+        let before = place.saturating_sub(distance);
+        if stands_at(items, pid, before) {
+            return Some(before);
+        }
+    }
+    None
+}
+
+/// Whether a process stands at a place.
+fn stands_at(items: &[Item], pid: Pid, place: usize) -> bool
+    ensures { result ≡ true → StandsAt (is_proc pid) items.now place }
+{
+    if place >= items.len() {
+        return false;
+    }
+    is_process(&items[place], pid)
+}
+
 /// The place of the first message on a link toward a side.
 pub(crate) fn find_message(items: &[Item], link: Link, side: Side) -> Option<usize>
     ensures { MatchOption result (cut (is_msg link side) items.now ≡ None) (λ i. IsCutAt (is_msg link side) items.now i) }
@@ -29,7 +57,7 @@ pub(crate) fn find_message(items: &[Item], link: Link, side: Side) -> Option<usi
     None
 }
 
-pub(crate) fn is_process(item: &Item, pid: Pid) -> bool
+fn is_process(item: &Item, pid: Pid) -> bool
     ensures { result ≡ is_proc pid item.now }
 {
     match item {

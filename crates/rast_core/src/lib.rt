@@ -11,10 +11,16 @@ mod main_process;
 mod messages;
 mod origin;
 mod outcome;
+mod picks;
 mod schedule;
+mod spawn_path;
 mod turns;
 
 pub use answer::{Next, Outcome, ReplayErr};
 pub use config::Config;
 pub use origin::Origin;
+pub use picks::replay;
 pub use turns::run;
+
+#[cfg(test)]
+mod tests;

@@ -5,12 +5,20 @@ use rast_items::{Event, Link, Pid};
 use std::alloc::{AllocError, Global};
 use std::collections::BTreeMap;
 
+/// How many events a process does before one that it woke or made has its turn.
+const STREAK: u32 = 32;
+
 /// Processes that may have an event, the next one last, and those that were found waiting, by their links.
 /// It only says where to look: whether a process has an event is asked of the configuration.
 #[derive(Drop)]
 pub(crate) struct Schedule {
     ready: Vec<Pid>,
     waiting: BTreeMap<u64, Pid>,
+    /// The process that did the event before, how many it did one after another,
+    /// and whether one that it woke or made meanwhile comes after it.
+    last: Pid,
+    streak: u32,
+    followed: bool,
 }
 
 impl Schedule {
@@ -21,6 +29,9 @@ impl Schedule {
         Ok(Schedule {
             ready,
             waiting: BTreeMap::new(alloc),
+            last: Pid(0),
+            streak: 0,
+            followed: false,
         })
     }
 
@@ -39,31 +50,69 @@ impl Schedule {
         Ok(())
     }
 
-    /// A process has done an event: it is looked at next, and after it its child or the process that waited for its message.
+    /// A process has done an event. It goes on, and after it comes its child or the process that waited for its message.
     pub(crate) fn done(&mut self, event: &Event) -> Result<(), AllocError> {
         match event {
             Event::Send { pid, link, .. } => {
+                self.count(*pid);
                 self.wake(*link)?;
-                self.ready.push(*pid)?;
+                self.go_on(*pid)
             }
-            Event::Move { to, .. } => self.wake(*to)?,
+            Event::Move { to, .. } => self.wake(*to),
             Event::Spawn { pid, child, .. } => {
-                self.ready.push(*child)?;
-                self.ready.push(*pid)?;
+                self.count(*pid);
+                self.follow(*child)?;
+                self.go_on(*pid)
             }
             Event::Take { pid, .. }
             | Event::Call { pid, .. }
             | Event::Work { pid, .. }
-            | Event::Delay { pid, .. } => self.ready.push(*pid)?,
+            | Event::Delay { pid, .. } => {
+                self.count(*pid);
+                self.go_on(*pid)
+            }
+        }
+    }
+
+    /// One more event of a process.
+    fn count(&mut self, pid: Pid) {
+        if pid.is(self.last) {
+            self.streak = self.streak.saturating_add(1);
+        } else {
+            self.last = pid;
+            self.streak = 1;
+            self.followed = false;
+        }
+    }
+
+    /// A process goes on. After a streak one that it woke or made comes first, so that few messages wait.
+    fn go_on(&mut self, pid: Pid) -> Result<(), AllocError> {
+        if self.streak < STREAK || !self.followed {
+            self.ready.push(pid)?;
+            return Ok(());
+        }
+        self.streak = 0;
+        self.followed = false;
+        let after = self.ready.pop();
+        self.ready.push(pid)?;
+        if let Some(other) = after {
+            self.ready.push(other)?;
         }
         Ok(())
     }
 
-    fn wake(&mut self, link: Link) -> Result<(), AllocError> {
-        if let Some(pid) = self.waiting.remove(&key(link)) {
-            self.ready.push(pid)?;
-        }
+    /// A process comes after the one that does an event.
+    fn follow(&mut self, pid: Pid) -> Result<(), AllocError> {
+        self.ready.push(pid)?;
+        self.followed = true;
         Ok(())
+    }
+
+    fn wake(&mut self, link: Link) -> Result<(), AllocError> {
+        match self.waiting.remove(&key(link)) {
+            Some(pid) => self.follow(pid),
+            None => Ok(()),
+        }
     }
 }
 

@@ -33,6 +33,7 @@ filled_all f n out i m h k =
 
 -- the term of seventeen numbers that f gives
 numbers_are : (f : ℕ → ℤ) (out : List ℤ) (i : ℕ) → Filled f 17 out i → 17 ≤ i → i ≤ 17 → from_numbers out ≡ from_parts f
+unfolding from_parts
 numbers_are f out i m h k = ap from_numbers (filled_all f 17 out i m h k)
 
 pub fits_parts : (f : ℕ → ℤ) (out : List ℤ) (i : ℕ) (r : Result Linear Coefficient) → Filled f 17 out i → 17 ≤ i → i ≤ 17 →

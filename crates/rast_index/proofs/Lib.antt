@@ -1,8 +1,8 @@
-mod Each
+pub mod Each
 pub mod Ends
-mod Filled
+pub mod Filled
 pub mod Replaced
-mod Same
+pub mod Same
 pub mod Scope
 pub mod Trees
 pub mod Values

@@ -43,3 +43,6 @@ put-Rel args a b r = ap (put args) (sym (rolls-Rel a r b)) ∙ fold-roll-Formula
 
 pub all_small-Rel : (a b : Linear) (r : Relation) → all_small (Rel a r b) ≡ (is_small a && is_small b)
 all_small-Rel a b r = ap all_small (sym (rolls-Rel a r b)) ∙ fold-roll-Formula Bool small_step (open'.Rel a r b)
+
+-- whether the numbers are small, from those of the members
+pub ruleset small_members = (all_small-And, all_small-Or)

@@ -1,7 +1,7 @@
 -- The value of a term that was made from others.
 use Rattle.std.proofs.Common.{◌≡◌, ℕ, zero, suc, ◌≤◌, List, [], ◌∷◌, length, get_or, map, sym, ◌∙◌, ap, ap₂, refl, arith, ℤ, pos, negsuc, ◌+ℤ◌, ◌-ℤ◌, ◌*ℤ◌}
 use Rattle.std.proofs.lemmas.Int.{ints}
-use Rattle.rast_index.specs.Linear.{Linear, value, weighted, tabulate, part, plus, less, times, base_part, mixed, replaced, fixed}
+use Rattle.rast_index.specs.Linear.{Linear, value, weighted, tabulate, part, plus, less, times, base_part, mixed, replaced, fixed, from_parts}
 use Rattle.rast_index.proofs.Whole.{mul_assoc_ℤ, mul_add_ℤ, add_mul_ℤ, zero_mul_ℤ}
 
 pub tabulate_suc : {X : Type 0} (f : ℕ → X) (i n : ℕ) → tabulate f (suc i) n ≡ tabulate (λ j. f (suc j)) i n
@@ -47,6 +47,7 @@ sum_at n a b vs h =
     omega (arith, ints, weighted_sums (part a) (part b) 1 n vs, weighted_parts n a vs h, weighted_parts n b vs h)
 
 pub value_plus : (a b : Linear) (vs : List ℤ) → length vs ≤ 16 → value (plus a b) vs ≡ value a vs +ℤ value b vs
+unfolding from_parts
 value_plus a b vs h = sum_at 16 a b vs h
 
 multiple_at : (n : ℕ) (k : ℤ) (a : Linear) (vs : List ℤ) → length vs ≤ n →
@@ -56,6 +57,7 @@ multiple_at n k a vs h =
     ∙ sym (mul_add_ℤ k a.constant (weighted a.coefficients vs))
 
 pub value_times : (k : ℕ) (a : Linear) (vs : List ℤ) → length vs ≤ 16 → value (times k a) vs ≡ pos k *ℤ value a vs
+unfolding from_parts
 value_times k a vs h = multiple_at 16 (pos k) a vs h
 
 less_at : (n : ℕ) (a b : Linear) (vs : List ℤ) → length vs ≤ n →
@@ -65,6 +67,7 @@ less_at n a b vs h =
     omega (arith, ints, e, weighted_parts n a vs h, multiple_at n (negsuc 0) b vs h)
 
 pub value_less : (a b : Linear) (vs : List ℤ) → length vs ≤ 16 → value (less a b) vs ≡ value a vs -ℤ value b vs
+unfolding from_parts
 value_less a b vs h = less_at 16 a b vs h
 
 -- a sum of columns is the weighted sum of the rows
@@ -99,6 +102,7 @@ mixed_at n l args vs h =
 
 -- the value of a term whose variables were replaced
 pub value_replaced : (args : List Linear) (l : Linear) (vs : List ℤ) → length vs ≤ 16 → value (replaced args l) vs ≡ value l (map (λ a. value a vs) args)
+unfolding from_parts
 value_replaced args l vs h = mixed_at 16 l args vs h
 
 pub value_fixed : (z : ℤ) (vs : List ℤ) → value (fixed z) vs ≡ z

@@ -56,7 +56,7 @@ abbrev pub part : Linear → ℕ → ℤ
 part l zero = l.constant
 part l (suc j) = get_or l.coefficients j (pos 0)
 
-abbrev pub from_parts : (ℕ → ℤ) → Linear
+unfoldable pub from_parts : (ℕ → ℤ) → Linear
 from_parts f = record { constant = f 0; coefficients = tabulate f 1 16 }
 
 -- the difference, and the sum

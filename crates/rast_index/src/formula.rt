@@ -53,26 +53,29 @@ impl Rel {
 }
 
 impl Formula {
-    ghost use Rattle.std.specs.Prelude.{◌≡◌, ◌↔◌, IfOk, IsTrue};
+    ghost use Rattle.std.specs.Prelude.{◌≡◌, ◌↔◌, true, IfOk, IsTrue};
+    ghost use Rattle.rast_index.specs.Truth.{all_small};
 
-    /// The same formula again.
+    /// The same formula again, whose numbers are below 2^32 in magnitude.
     #[cycle(copy)]
+    #[tactic(auto, using(crate::proofs::Trees::small_members))]
     pub fn copy(&self, alloc: Global) -> Result<Formula, AllocError>
-        ensures { IfOk result (λ f. f ≡ self.now) }
+        ensures same { IfOk result (λ f. f ≡ self.now) }
+        ensures small { IfOk result (λ f. all_small f ≡ true) }
     {
-        Ok(match self {
-            Formula::True => Formula::True,
-            Formula::False => Formula::False,
-            Formula::Rel(a, rel, b) => Formula::Rel(*a, *rel, *b),
-            Formula::Div(d, l) => Formula::Div(*d, *l),
-            Formula::Not(f) => Formula::Not(Boxed::new(alloc, f.get().copy(alloc)?)?),
-            Formula::And(fs) => Formula::And(copies(alloc, fs.as_slice())?),
-            Formula::Or(fs) => Formula::Or(copies(alloc, fs.as_slice())?),
-            Formula::Imp(f, g) => Formula::Imp(
+        match self {
+            Formula::True => Ok(Formula::True),
+            Formula::False => Ok(Formula::False),
+            Formula::Rel(a, rel, b) => Ok(Formula::Rel(a.again(), *rel, b.again())),
+            Formula::Div(d, l) => Ok(Formula::Div(*d, l.again())),
+            Formula::Not(f) => Ok(Formula::Not(Boxed::new(alloc, f.get().copy(alloc)?)?)),
+            Formula::And(fs) => Ok(Formula::And(copies(alloc, fs.as_slice())?)),
+            Formula::Or(fs) => Ok(Formula::Or(copies(alloc, fs.as_slice())?)),
+            Formula::Imp(f, g) => Ok(Formula::Imp(
                 Boxed::new(alloc, f.get().copy(alloc)?)?,
                 Boxed::new(alloc, g.get().copy(alloc)?)?,
-            ),
-        })
+            )),
+        }
     }
 
     /// Whether both are the same formula, in writing and not in meaning.
@@ -98,12 +101,15 @@ impl Formula {
     }
 }
 
-ghost use Rattle.std.specs.Prelude.{◌≡◌, ◌↔◌, IfOk, IsTrue};
+ghost use Rattle.std.specs.Prelude.{◌≡◌, ◌↔◌, true, IfOk, IsTrue};
+ghost use Rattle.std.specs.List.{list_all};
+ghost use Rattle.rast_index.specs.Truth.{all_small};
 
-/// The same formulas again.
+/// The same formulas again, whose numbers are below 2^32 in magnitude.
 #[cycle(copy)]
 pub fn copies(alloc: Global, fs: &[Formula]) -> Result<Items<Formula>, AllocError>
-    ensures { IfOk result (λ copied. copied ≡ fs.now) }
+    ensures same { IfOk result (λ copied. copied ≡ fs.now) }
+    ensures small { IfOk result (λ copied. list_all all_small copied ≡ true) }
 {
     let mut out = Items::new(alloc);
     for f in fs {

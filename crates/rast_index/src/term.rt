@@ -1,6 +1,6 @@
 // Linear terms.
-ghost use Rattle.std.specs.Prelude.{◌≡◌, ◌≤◌, ◌↔◌, IsTrue};
-ghost use Rattle.rast_index.specs.Linear.{part, small};
+ghost use Rattle.std.specs.Prelude.{◌≡◌, ◌<◌, ◌≤◌, ◌↔◌, true, length, IsTrue};
+ghost use Rattle.rast_index.specs.Linear.{part, small, is_small, nought, variable};
 
 use std::marker::Model;
 
@@ -28,6 +28,39 @@ impl Model for Lin {
 }
 
 impl Lin {
+    /// The constant 0.
+    pub fn nought() -> Lin
+        ensures { result ≡ nought }
+    {
+        Lin {
+            constant: 0,
+            coefficient: [0; 16],
+        }
+    }
+
+    /// The variable with this number.
+    pub fn variable(number: usize) -> Lin
+        requires { number < 16 }
+        ensures { result ≡ variable number }
+    {
+        let mut coefficient = [0; 16];
+        coefficient[number] = 1;
+        Lin {
+            constant: 0,
+            coefficient,
+        }
+    }
+
+    /// The same term again, whose numbers are below 2^32 in magnitude.
+    pub fn again(&self) -> Lin
+        ensures same { result ≡ self.now }
+        ensures small { is_small self.now ≡ true }
+        ensures sized { length self.now.coefficients ≡ 16 }
+    {
+        let _constant = self.constant;
+        *self
+    }
+
     /// Whether both are the same term.
     pub fn is_same(&self, other: &Lin) -> bool
         ensures { IsTrue result ↔ (self.now ≡ other.now) }

@@ -31,6 +31,13 @@ fn multiple_apart(alloc: Global) -> Result<Formula, AllocError> {
 }
 
 #[test]
+fn makes_terms(rt: HostRuntime) {
+    assert_eq!(rt; Lin::nought(), term(0, 0, 0));
+    assert_eq!(rt; Lin::variable(1), term(0, 0, 1));
+    assert_eq!(rt; term(5, 3, 2).again(), term(5, 3, 2));
+}
+
+#[test]
 fn evaluates(rt: HostRuntime) {
     assert_eq!(rt; eval(&term(5, 3, 2), &values(4, 7)), 31);
 }

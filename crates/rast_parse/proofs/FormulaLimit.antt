@@ -138,14 +138,14 @@ opens_fixed : (x : LiteralLayer) (k : ℕ) (more : List Mark) (which : ℕ) (v :
 opens_fixed x k more which v f e g = (to_literal x, record { word = Fixed k; open_at = 1; in_formula = false }, starred more, literal_fit x ∙ f, sym (literal_mark x ∙ ap starred e), ap Fixed g, omega arith)
 
 -- the kinds, one by one
-pick : (a k : ℕ) (rest : Bool) → ((a == k) || rest) ≡ true → (a ≡ k) ⊎ (rest ≡ true)
+pub pick : (a k : ℕ) (rest : Bool) → ((a == k) || rest) ≡ true → (a ≡ k) ⊎ (rest ≡ true)
 pick a k rest e = at (a == k) refl e
   where
     at : (b : Bool) → (a == k) ≡ b → (b || rest) ≡ true → (a ≡ k) ⊎ (rest ≡ true)
     at true f g = inl (eqb-true a k f)
     at false f g = inr g
 
-less_two : (which k : ℕ) → suc (suc which) ≡ suc (suc k) → which ≡ k
+pub less_two : (which k : ℕ) → suc (suc which) ≡ suc (suc k) → which ≡ k
 less_two which k e = omega arith
 
 opens_literal_fixed : (which : ℕ) (v : List Word) → is_in formula_first (suc (suc which)) ≡ true → Opens bars literal_form (Fixed which) v

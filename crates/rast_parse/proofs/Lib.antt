@@ -11,3 +11,13 @@ pub mod Depths
 pub mod Whole
 pub mod Good
 pub mod Parsed
+pub mod Fusions
+pub mod Narrow
+pub mod TypesExact
+pub mod TypeLimit
+pub mod ReferencesExact
+pub mod StatementsExact
+pub mod ProcExact
+pub mod ProcLimit
+pub mod ProcTurns
+pub mod FilesExact

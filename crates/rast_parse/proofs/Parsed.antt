@@ -8,8 +8,8 @@ use Rattle.rast_lex.specs.declared.token.Token.{Token}
 use Rattle.rast_lex.specs.Meaning.{word_of, words}
 use Rattle.rast_parse.specs.declared.cursor.Fault.{Fault}
 use Rattle.rast_parse.specs.declared.cursor.Fault.TheVariants as fault
-use Rattle.rast_parse.specs.declared.parse.ParseErr.{ParseErr}
-use Rattle.rast_parse.specs.declared.parse.ParseErr.TheVariants as error
+use Rattle.rast_parse.specs.declared.outcome.ParseErr.{ParseErr}
+use Rattle.rast_parse.specs.declared.outcome.ParseErr.TheVariants as error
 use Rattle.rast_parse.specs.Answer.{FailsAs, Places}
 use Rattle.rast_parse.specs.Parses.{place_of, AreRead, IsFirstWrong, IsFirstDeep, Answers, IsOnly}
 use Rattle.rast_parse.proofs.LinearExact.{bars}

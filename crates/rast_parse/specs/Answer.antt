@@ -7,8 +7,8 @@ use Rattle.rast_parse.specs.declared.cursor.Fault.TheVariants as fault
 use Rattle.rast_parse.specs.declared.cursor.Cursor.{Cursor}
 use Rattle.rast_parse.specs.Cursors.{seen}
 use Rattle.rast_lex.specs.declared.token.Token.{Token}
-use Rattle.rast_parse.specs.declared.parse.ParseErr.{ParseErr}
-use Rattle.rast_parse.specs.declared.parse.ParseErr.TheVariants as error
+use Rattle.rast_parse.specs.declared.outcome.ParseErr.{ParseErr}
+use Rattle.rast_parse.specs.declared.outcome.ParseErr.TheVariants as error
 use Rattle.rast_parse.specs.Parses.{place_of}
 
 -- A refusal says how many tokens are left. Want of memory may always come.

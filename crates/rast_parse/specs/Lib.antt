@@ -4,3 +4,6 @@ pub mod Answer
 pub mod LinearReading
 pub mod FormulaReading
 pub mod Parses
+pub mod TypeReading
+pub mod ProcessReading
+pub mod FileReading

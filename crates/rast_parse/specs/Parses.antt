@@ -6,8 +6,8 @@ use Rattle.rast_ast.specs.declared.kind.Kind.TheVariants as kind
 use Rattle.rast_ast.specs.Kinds.{code}
 use Rattle.rast_lex.specs.declared.token.Token.{Token}
 use Rattle.rast_lex.specs.Meaning.{word_of, words}
-use Rattle.rast_parse.specs.declared.parse.ParseErr.{ParseErr}
-use Rattle.rast_parse.specs.declared.parse.ParseErr.TheVariants as error
+use Rattle.rast_parse.specs.declared.outcome.ParseErr.{ParseErr}
+use Rattle.rast_parse.specs.declared.outcome.ParseErr.TheVariants as error
 
 -- the bar, before which a number begins no term of a formula
 abbrev pub before_bar : List ℕ

@@ -2,10 +2,16 @@
 #![tactic(auto)]
 
 mod cursor;
+mod file;
 mod formula;
 mod linear;
-mod parse;
+mod outcome;
+mod process;
+#[cfg(test)]
+mod process_tests;
+mod statement;
 #[cfg(test)]
 mod tests;
+mod type_expr;
 
-pub use parse::{ParseErr, parse_form};
+pub use outcome::{ParseErr, parse, parse_form};

@@ -3,3 +3,4 @@ pub mod Values
 pub mod Reports
 pub mod Waiting
 pub mod Turns
+pub mod Amounts

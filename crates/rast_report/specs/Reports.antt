@@ -2,10 +2,10 @@
 use Rattle.std.specs.Prelude.{ℕ, ◌+◌, Bool, List, [], ◌∷◌, ◌++◌, length, codes, if◌then◌else◌}
 use Rattle.std.specs.Fmt.{decimal}
 use Rattle.rast_terms.specs.declared.program.Program.{Program}
-use Rattle.rast_core.specs.Words.{Link, Pid, Event, Send, Take, Move, Spawn, Call, Work, Delay}
+use Rattle.rast_core.specs.Words.{Link, Pid, Body, Event, Send, Take, Move, Spawn, Call, Work, Delay}
 use Rattle.rast_items.specs.Items.{held}
 use Rattle.rast_items.specs.Links.{same_link}
-use Rattle.rast_items.specs.Run.{work, time}
+use Rattle.rast_items.specs.Run.{work, time, pid_of, moment_of}
 use Rattle.rast_core.specs.Shown.{Shown}
 use Rattle.rast_core.specs.declared.answer.Outcome.{Outcome}
 use Rattle.rast_core.specs.declared.answer.Outcome.TheVariants.{Running, Finished, OutOfBudget, IndexLimit, Blocked}
@@ -26,20 +26,46 @@ spaced t = codes " " ++ t
 abbrev pub at_moment : ℕ → Text
 at_moment m = codes " @" ++ decimal m
 
--- an event behind the process that does it, after the earlier events, the newest first
-abbrev pub event_text : Program → List Event → Event → Text
-event_text g past (Send pid link body moment q) = pid_text pid ++ (codes " send " ++ (link_text link ++ (spaced (body_text g body q) ++ at_moment moment)))
-event_text g past (Take pid link body moment) = pid_text pid ++ (codes " take " ++ (link_text link ++ (spaced (body_text g body (amount_on link past)) ++ at_moment moment)))
-event_text g past (Move pid from to body moment) = pid_text pid ++ (codes " move " ++ (link_text from ++ (spaced (link_text to) ++ (spaced (body_text g body (amount_on from past)) ++ at_moment moment))))
-event_text g past (Spawn pid child d moment) = pid_text pid ++ (codes " spawn " ++ (pid_text child ++ (spaced (decl_text g d) ++ at_moment moment)))
-event_text g past (Call pid d moment) = pid_text pid ++ (codes " call " ++ (decl_text g d ++ at_moment moment))
-event_text g past (Work pid r moment) = pid_text pid ++ (codes " work " ++ (decimal r ++ at_moment moment))
-event_text g past (Delay pid t moment) = pid_text pid ++ (codes " delay " ++ (decimal t ++ at_moment moment))
+-- what an event does to what it names
+abbrev pub verb : Event → Text
+verb (Send pid link body moment q) = codes " send "
+verb (Take pid link body moment) = codes " take "
+verb (Move pid from to body moment) = codes " move "
+verb (Spawn pid child d moment) = codes " spawn "
+verb (Call pid d moment) = codes " call "
+verb (Work pid r moment) = codes " work "
+verb (Delay pid t moment) = codes " delay "
+
+-- a message: its link, and its body with the amount that a payment holds
+abbrev pub message_line : Program → Link → Body → ℕ → Text
+message_line g l b q = link_text l ++ spaced (body_text g b q)
+
+-- what an event names: a message, a process, a declaration or a number; a message on a link holds an amount
+abbrev pub object_text : Program → (Link → ℕ) → Event → Text
+object_text g amount (Send pid link body moment q) = message_line g link body q
+object_text g amount (Take pid link body moment) = message_line g link body (amount link)
+object_text g amount (Move pid from to body moment) = link_text from ++ spaced (message_line g to body (amount from))
+object_text g amount (Spawn pid child d moment) = pid_text child ++ spaced (decl_text g d)
+object_text g amount (Call pid d moment) = decl_text g d
+object_text g amount (Work pid r moment) = decimal r
+object_text g amount (Delay pid t moment) = decimal t
+
+-- an event: its process, what it does, and its moment
+abbrev pub event_text : Program → (Link → ℕ) → Event → Text
+event_text g amount e = pid_text (pid_of e) ++ (verb e ++ (object_text g amount e ++ at_moment (moment_of e)))
+
+-- the line of the event with number n, after the earlier events, the newest first
+abbrev pub trace_line : Program → ℕ → List Event → Event → Text
+trace_line g n past e = decimal n ++ (spaced (event_text g (λ l. amount_on l past) e) ++ codes "\n")
 
 -- the lines of a trace, from number n on
 abbrev pub trace_from : Program → ℕ → List Event → List Event → Text
 trace_from g n past [] = []
-trace_from g n past (e ∷ es) = (decimal n ++ (spaced (event_text g past e) ++ codes "\n")) ++ trace_from g (n + 1) (e ∷ past) es
+trace_from g n past (e ∷ es) = trace_line g n past e ++ trace_from g (n + 1) (e ∷ past) es
+
+-- the whole trace where it is asked for
+abbrev pub trace_text : Program → List Event → Bool → Text
+trace_text g es asked = if asked then trace_from g 1 [] es else []
 
 abbrev pub limit_text : ℕ → Text
 limit_text v = codes " value " ++ decimal v
@@ -62,7 +88,11 @@ counts_text es v =
 abbrev pub result_line : Program → Shown → Text
 result_line g v = codes "result " ++ (value_text g v ++ codes "\n")
 
+-- the value where it is asked for
+abbrev pub shown_result : Program → Shown → Bool → Text
+shown_result g v asked = if asked then result_line g v else []
+
 -- the report of a run that came to this outcome
 abbrev pub report : Program → Outcome → List Event → Shown → Bool → Bool → Text
 report g o es v trace result =
-    (if trace then trace_from g 1 [] es else []) ++ (outcome_text o ++ (codes "\n" ++ (counts_text es v ++ (if result then result_line g v else []))))
+    trace_text g es trace ++ (outcome_text o ++ (codes "\n" ++ (counts_text es v ++ shown_result g v result)))

@@ -1,10 +1,12 @@
 // The report of a run.
-ghost use Rattle.std.specs.Prelude.{◌≡◌, ◌++◌, IfOk, OnOk, false, true};
-ghost use Rattle.rast_report.specs.Reports.{outcome_text, limit_text, count_line, counts_text, result_line, report};
+ghost use Rattle.std.specs.Prelude.{◌≡◌, ◌++◌, ◌<◌, ◌^◌, IfOk, OnOk};
+ghost use Rattle.rast_items.specs.Run.{work};
+ghost use Rattle.rast_report.specs.Reports.{outcome_text, limit_text, count_line, counts_text, shown_result, report};
 
 use crate::printing::value;
-use crate::sums::{held, time, work};
+use crate::sums::{time, work};
 use crate::text::{put, put_number, put_pid};
+use crate::trace::put_trace;
 use rast_core::{Config, Outcome};
 use rast_items::{Event, Pid};
 use rast_terms::Program;
@@ -57,14 +59,12 @@ fn put_counts(
     config: &Config,
     history: &[Event],
 ) -> Result<(), AllocError>
+    requires { work history.now < 2 ^ 128 }
     ensures { OnOk result (text.new.items ≡ text.old.items ++ counts_text history.now config.now) }
 {
-    let (Some(work), Some(held)) = (work(history), held(config.items())) else {
-        return Err(AllocError);
-    };
     put_count(alloc, text, b"steps", history.len() as u128)?;
-    put_count(alloc, text, b"work", work)?;
-    put_count(alloc, text, b"held", held)?;
+    put_count(alloc, text, b"work", work(history))?;
+    put_count(alloc, text, b"held", config.held())?;
     put_count(alloc, text, b"time", time(history))
 }
 
@@ -73,30 +73,40 @@ fn put_result(
     text: &mut Vec<u8>,
     program: &Program,
     config: &Config,
+    asked: bool,
 ) -> Result<(), AllocError>
-    ensures { OnOk result (text.new.items ≡ text.old.items ++ result_line program.now config.now) }
+    ensures { OnOk result (text.new.items ≡ text.old.items ++ shown_result program.now config.now asked) }
 {
+    if !asked {
+        return Ok(());
+    }
     put(text, b"result ")?;
     let value = value(alloc, program, config)?;
     put(text, value.as_slice())?;
     put(text, b"\n")
 }
 
-/// The report of a run that came to this outcome: the outcome, the numbers of events, work, held potential and time,
-/// and the value of its configuration. Sums of 2^128 or more, which no run reaches, are answered as want of memory.
+/// The report of a run: the outcome, the numbers of events, work, held potential and time.
+///
+/// `config` is the configuration after the events of `history`, and `outcome` how far the run has come.
+/// With `traced` a line for each event comes first; with `valued` the value of the configuration comes last.
 pub fn report_text(
     alloc: Global,
     program: &Program,
     outcome: Outcome,
     config: &Config,
     history: &[Event],
+    traced: bool,
+    valued: bool,
 ) -> Result<Vec<u8>, AllocError>
-    ensures { IfOk result (λ text. text.items ≡ report program.now outcome history.now config.now false true) }
+    requires { work history.now < 2 ^ 128 }
+    ensures { IfOk result (λ text. text.items ≡ report program.now outcome history.now config.now traced valued) }
 {
     let mut text = Vec::new(alloc);
+    put_trace(alloc, &mut text, program, history, traced)?;
     put_outcome(alloc, &mut text, outcome)?;
     put(&mut text, b"\n")?;
     put_counts(alloc, &mut text, config, history)?;
-    put_result(alloc, &mut text, program, config)?;
+    put_result(alloc, &mut text, program, config, valued)?;
     Ok(text)
 }

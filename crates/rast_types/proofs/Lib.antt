@@ -1,0 +1,9 @@
+pub mod Binders
+pub mod Heads
+pub mod Layers
+pub mod Mixed
+pub mod Parts
+pub mod Puts
+pub mod Shallow
+pub mod Small
+pub mod Valued

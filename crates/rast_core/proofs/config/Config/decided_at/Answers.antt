@@ -28,4 +28,4 @@ returns c =
     let k : IsCutAt (is_proc p.pid) c.deref.result.now c.args.place = unique_cut p.pid c.deref.result.now c.args.place (P p)
     (subst (λ (xs : List Item). total (numbered_as p.pid) xs ≤ 1) (sym c.deref.ensures.value) (c.self.invariant.2.once p.pid)) h (self_passes p) in
     subst (λ (s : Shown). Decides (next_of c.args.program.now s p.pid) s.items c.args.place c.decide.result) c.self.view_is
-    (decided_here c.args.program.now v c.deref.result.now c.args.place (length c.as_slice.result.now) p c.decide.result c.deref.ensures.value (ap (λ (os : List Origin). length os) c.as_slice.ensures.value) k h c.decide.ensures)
+    (decided_here c.args.program.now v c.deref.result.now c.args.place c.made.result p c.decide.result c.deref.ensures.value (c.made.ensures ∙ sym (ap (λ (s : Shown). length s.origins) c.self.view_is)) k h c.decide.ensures)

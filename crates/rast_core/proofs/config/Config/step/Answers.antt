@@ -1,18 +1,5 @@
-use Rattle.std.proofs.Common.{◌≡◌, subst}
-use Rattle.rast_core.specs.Shown.{code_of, next_of}
-use Rattle.rast_core.specs.Edits.{Decides, IsStepEdit}
-use Rattle.rast_core.specs.declared.decision.Decision.{Decision}
-use Rattle.rast_core.specs.declared.decision.Decision.TheVariants.{Does as Do}
-use Rattle.rast_core.proofs.ConfigLemmas.{leaves_by}
+use Rattle.rast_core.proofs.OrderLemmas.{step_keeps_order}
 use Rattle.rast_core.proofs.config.Config.step.Goals as goal
 
-pub perform-requires-clause-step : goal.perform-requires-clause-step
-perform-requires-clause-step c =
-    let old = c.args.self.now in
-    record { code = code_of c.args.program.now old; pid = c.args.pid; event = c.in-Does.event; decides = subst (λ (r : Decision). Decides (next_of c.args.program.now old c.args.pid) old.items c.in-Some.place r) c.in-Does.is c.in-Some.ensures.1 }
-
-pub returns-in-Does : goal.returns-in-Does
-returns-in-Does c =
-    let old = c.args.self.now in
-    leaves_by old c.perform.new.self c.in-Some.place c.in-Does.event c.in-Does.edit c.in-Does.child (next_of c.args.program.now old c.args.pid)
-    (subst (λ (r : Decision). Decides (next_of c.args.program.now old c.args.pid) old.items c.in-Some.place r) c.in-Does.is c.in-Some.ensures.1) c.perform.ensures.items c.perform.ensures.origins c.perform.ensures.plan c.perform.ensures.spare
+pub returns-clause-ordered : goal.returns-clause-ordered
+returns-clause-ordered c = step_keeps_order c.args.program.now c.args.self.now c.do_next.new.self c.args.pid c.do_next.result c.do_next.ensures.step

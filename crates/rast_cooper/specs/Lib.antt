@@ -1,0 +1,12 @@
+pub mod Divisors
+pub mod Arithmetic
+pub mod Meaning
+pub mod Eliminate
+pub mod Claims
+pub mod Search
+pub mod Course
+pub mod Rows
+pub mod Verdicts
+pub mod Stack
+pub mod Answer
+pub mod Frames

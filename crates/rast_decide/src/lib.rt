@@ -1,0 +1,11 @@
+//! `rast decide`: whether the formula that a text is holds.
+#![tactic(auto)]
+
+mod decision;
+mod line;
+#[cfg(test)]
+mod tests;
+mod text;
+
+pub use decision::{Decision, status};
+pub use text::{Decided, decide_text};

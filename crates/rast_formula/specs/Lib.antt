@@ -1,0 +1,5 @@
+pub mod Answers
+pub mod Scopes
+pub mod Linears
+pub mod Formulas
+pub mod Variables

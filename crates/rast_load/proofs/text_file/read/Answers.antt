@@ -1,0 +1,12 @@
+use Rattle.std.proofs.Common.{◌∙◌, Global, Vec}
+use Rattle.rast_lex.specs.declared.token.Token.{Token}
+use Rattle.rast_load.proofs.Refusals.{refused_lexing, refused_parsing}
+use Rattle.rast_load.proofs.text_file.read.Goals as goal
+
+pub returns-in-Err-clause-refused : goal.returns-in-Err-clause-refused
+returns-in-Err-clause-refused c = rw c.lexical.ensures (refused_lexing (λ (v : Vec Token Global). v.items) c.args.text.now c.in-Err.fault c.in-Err.ensures.exact c.in-Err.ensures.only)
+
+pub returns-clause-refused : goal.returns-clause-refused
+returns-clause-refused c = rw c.syntactic.ensures
+    (refused_parsing c.args.text.now c.deref.result.now c.in-Err-parse.fault (rw c.deref.ensures.value c.in-Ok.ensures.exact)
+    (λ others are. c.deref.ensures.value ∙ c.in-Ok.ensures.only others are) c.in-Err-parse.ensures.exact c.in-Err-parse.ensures.only)

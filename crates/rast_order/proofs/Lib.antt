@@ -1,0 +1,16 @@
+pub mod Words
+pub mod Counts
+pub mod Keys
+pub mod Deeds
+pub mod Received
+pub mod View
+pub mod Keeps
+pub mod Messages
+pub mod Queue
+pub mod Sound
+pub mod Takes
+pub mod Moves
+pub mod Makes
+pub mod Steps
+pub mod Runs
+pub mod Pids

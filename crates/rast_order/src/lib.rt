@@ -1,0 +1,18 @@
+//! Laws of runs, each as a function without code whose contract is the law.
+#![tactic(auto)]
+
+mod order;
+
+pub use order::{links_law, numbers_law, order_law};
+
+#[cfg(test)]
+mod tests {
+    use crate::order::{links_law, numbers_law, order_law};
+
+    #[test]
+    fn laws_are_called() {
+        order_law();
+        links_law();
+        numbers_law();
+    }
+}

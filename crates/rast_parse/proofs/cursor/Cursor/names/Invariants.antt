@@ -1,0 +1,10 @@
+use Rattle.std.proofs.Common.{length}
+use Rattle.rast_forms.specs.Reading.{IsUnderWay}
+use Rattle.rast_ast.specs.declared.kind.Kind.TheVariants as kind
+use Rattle.rast_parse.specs.Cursors.{seen}
+use Rattle.rast_parse.specs.LinearReading.{is, name_read}
+use Rattle.rast_parse.specs.ProcessReading.{names_read}
+use Rattle.rast_parse.proofs.cursor.Cursor.names.Given as goal
+
+abbrev pub invariant-loop-turn : goal.invariant-loop-turn
+invariant-loop-turn l = IsUnderWay (is kind.Name) name_read (length (seen l.self)) l._turn l.items (seen l.rest) (names_read (seen l.self))

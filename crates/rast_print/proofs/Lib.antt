@@ -1,0 +1,11 @@
+pub mod Appended
+pub mod Layers
+pub mod Cutting
+pub mod Tokens
+pub mod Induction
+pub mod LinearCut
+pub mod FormulaCut
+pub mod TypeCut
+pub mod ProcessCut
+pub mod FileCut
+pub mod OneText
