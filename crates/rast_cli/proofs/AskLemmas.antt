@@ -1,8 +1,8 @@
 -- Words ask for one thing.
-use Rattle.std.proofs.Common.{◌≡◌, ◌∙◌, ℕ, Bool, true, false, List, [], Option, None, Some, get_or, refl, sym, ap, arith, true≢false, codes}
+use Rattle.std.proofs.Common.{◌≡◌, ◌∙◌, ℕ, Bool, List, [], Option, None, Some, get_or, sym, ap, arith, true≢false, codes}
 use Rattle.clap.specs.Words.{Row, Text}
 use Rattle.rast_words.specs.Matched.{text_at, number_at, is_set}
-use Rattle.rast_words.specs.Asks.{AsksBy, AsksRun, AsksShow, AsksWhether}
+use Rattle.rast_words.specs.Asks.{AsksBy, AsksRun, AsksCheck, AsksShow, AsksWhether}
 use Rattle.rast_cli.specs.Answered.{IsUsage}
 
 -- the first byte of the name of a subcommand, and its matches
@@ -15,6 +15,10 @@ matches_in None = []
 matches_in (Some p) = p.1
 
 module _ (words : List Text) where
+  pub run_or_check : (name : Text) (budget : ℕ) (trace : Bool) (other : Text) → AsksRun words name budget trace → AsksCheck words other → ⊥
+  unfolding first_of
+  run_or_check name budget trace other p q = let e : 114 ≡ 99 = ap first_of (sym p.1.subcommand ∙ q.1.subcommand) in omega (arith, e)
+
   pub run_or_show : (name : Text) (budget : ℕ) (trace : Bool) (other : Text) → AsksRun words name budget trace → AsksShow words other → ⊥
   unfolding first_of
   run_or_show name budget trace other p q = let e : 114 ≡ 115 = ap first_of (sym p.1.subcommand ∙ q.1.subcommand) in omega (arith, e)
@@ -23,7 +27,15 @@ module _ (words : List Text) where
   unfolding first_of
   run_or_decide name budget trace formula p q = let e : 114 ≡ 100 = ap first_of (sym p.1.subcommand ∙ q.1.subcommand) in omega (arith, e)
 
-  pub show_or_decide : (name formula : Text) → AsksShow words name → AsksWhether words formula → ⊥
+  pub check_or_show : (name : Text) (other : Text) → AsksCheck words name → AsksShow words other → ⊥
+  unfolding first_of
+  check_or_show name other p q = let e : 99 ≡ 115 = ap first_of (sym p.1.subcommand ∙ q.1.subcommand) in omega (arith, e)
+
+  pub check_or_decide : (name : Text) (formula : Text) → AsksCheck words name → AsksWhether words formula → ⊥
+  unfolding first_of
+  check_or_decide name formula p q = let e : 99 ≡ 100 = ap first_of (sym p.1.subcommand ∙ q.1.subcommand) in omega (arith, e)
+
+  pub show_or_decide : (name : Text) (formula : Text) → AsksShow words name → AsksWhether words formula → ⊥
   unfolding first_of
   show_or_decide name formula p q = let e : 115 ≡ 100 = ap first_of (sym p.1.subcommand ∙ q.1.subcommand) in omega (arith, e)
 
@@ -45,6 +57,9 @@ module _ (words : List Text) where
 
   pub same_show : (name name2 : Text) → AsksShow words name → AsksShow words name2 → name2 ≡ name
   same_show name name2 p q = q.2 ∙ (ap (text_at (codes "file")) (same_matches (codes "show") p.0 q.0 p.1 q.1) ∙ sym p.2)
+
+  pub same_check : (name name2 : Text) → AsksCheck words name → AsksCheck words name2 → name2 ≡ name
+  same_check name name2 p q = q.2 ∙ (ap (text_at (codes "file")) (same_matches (codes "check") p.0 q.0 p.1 q.1) ∙ sym p.2)
 
   pub same_formula : (formula other : Text) → AsksWhether words formula → AsksWhether words other → other ≡ formula
   same_formula formula other p q = q.2 ∙ (ap (text_at (codes "formula")) (same_matches (codes "decide") p.0 q.0 p.1 q.1) ∙ sym p.2)

@@ -1,26 +1,19 @@
 -- What an exit status says of a formula.
-use Rattle.std.proofs.Common.{◌≡◌, ◌∙◌, ◌⊎◌, ◌<◌, ◌≤◌, ℕ, Bool, List, [], length, refl, sym, ap, subst, inl, inr, ⊎_elim, arith, codes}
+use Rattle.std.proofs.Common.{◌≡◌, ◌∙◌, ℕ, List, sym, subst, arith}
 use Rattle.std.specs.declared.option.Option.{Option}
 use Rattle.std.specs.Io.KnownBytes.{Appends}
-use Rattle.rast_io.specs.Bytes.{Named}
 use Rattle.rast_items.specs.declared.event.Event.{Event}
-use Rattle.rast_items.specs.declared.link.Pid.{Pid}
-use Rattle.rast_core.specs.declared.answer.Outcome.{Outcome}
-use Rattle.rast_core.specs.declared.answer.Outcome.TheVariants.{Running, Finished, OutOfBudget, IndexLimit, Blocked}
-use Rattle.rast_load.specs.declared.fault.TextFault.{TextFault}
-use Rattle.rast_load.specs.Lines.{fault_line, fault_status}
 use Rattle.rast_cli.specs.declared.answer.Answer.{Answer}
-use Rattle.rast_cli.specs.declared.answer.Answer.TheVariants.{Usage, ReadFault, TooLong, NoFile, NotYet, Ran, Shown, Decided}
 use Rattle.rast_cli.specs.Lines.{code_of}
-use Rattle.rast_cli.specs.Held.{IsTooLong, IsNoProgram, IsFaulty}
-use Rattle.rast_cli.specs.Answered.{IsRefusal, RunsFile, ShowsFile, RunComes, ShowComes, DecideComes, Ends}
-use Rattle.rast_cli.specs.Rows.{IsReported, IsShown, IsRefused, IsDecided, IsTrueFormula, RunEnds, ShowEnds, DecideEnds}
+use Rattle.rast_cli.specs.Answered.{DecideComes, Ends}
+use Rattle.rast_cli.specs.Rows.{IsDecided, IsTrueFormula, DecideEnds}
 use Rattle.rast_cooper.specs.declared.verdict.Verdict.TheVariants.{Holds, Fails, NodeLimit, NumberLimit}
 use Rattle.rast_decide.specs.declared.decision.Decision.{Decision}
 use Rattle.rast_decide.specs.declared.decision.Decision.TheVariants as decision
 use Rattle.rast_decide.specs.Lines.{status_of}
 use Rattle.rast_decide.specs.Decides.{Decides}
-use Rattle.rast_cli.proofs.Codes.{whole_of}
+use Rattle.rast_cli.proofs.Codes.{at_code}
+use Rattle.rast_cli.proofs.Views.{decide_view}
 
 module _ (old new : Option (List ℕ)) (formula : List ℕ) (limit : ℕ) where
   -- a formula of which `holds` was printed is true
@@ -48,28 +41,13 @@ module _ (old new : Option (List ℕ)) (formula : List ℕ) (limit : ℕ) where
   holds_row (decision.Judged NumberLimit) line decides e printed = let none : ⊥ = omega (arith, e) in absurd none
 
 module _ (limit : ℕ) (formula text : List ℕ) (history : List Event) where
-  decided : (k : ℕ) (answer : Answer) → DecideComes limit formula answer text history → k ≡ code_of answer → (d : Decision) × Decides limit formula d text × (k ≡ status_of d)
-  decided k Usage comes e = absurd comes
-  decided k ReadFault comes e = absurd comes
-  decided k TooLong comes e = absurd comes
-  decided k (NoFile fault) comes e = absurd comes
-  decided k (NotYet at) comes e = absurd comes
-  decided k (Ran Finished) comes e = absurd comes
-  decided k (Ran OutOfBudget) comes e = absurd comes
-  decided k (Ran Running) comes e = absurd comes
-  decided k (Ran (IndexLimit pid value)) comes e = absurd comes
-  decided k (Ran Blocked) comes e = absurd comes
-  decided k Shown comes e = absurd comes
-  decided k (Decided d) comes e = (d, comes.0, e)
-
   pub decide_ends : (old new : Option (List ℕ)) (before now status : ℕ) (answer : Answer) → DecideComes limit formula answer text history
       → Ends old new before now text (code_of answer) status → DecideEnds limit old new formula status
   decide_ends old new before now status answer comes ends =
-      let whole = whole_of old new before now text (code_of answer) status ends in
       let row : (k : ℕ) → status ≡ k → (k ≡ 4 → ⊥) → IsDecided limit old new formula k = λ k is other.
-      let w = whole (λ four. other (sym is ∙ four)) in
-      let d = decided k answer comes (sym is ∙ w.0) in
-      (d.0, text, d.1, sym d.2, w.1)
+      let w = at_code old new before now text (code_of answer) status k ends is other in
+      let d = decide_view limit formula answer text history comes in
+      (d.0, text, d.2, sym (w.0 ∙ d.1), w.1)
       in
       record {
         holds = λ is.
@@ -79,11 +57,3 @@ module _ (limit : ℕ) (formula text : List ℕ) (history : List Event) where
         bound = λ is. row 5 is (λ four. omega (arith, four));
         too_long = λ is. row 9 is (λ four. omega (arith, four));
       }
-
-pub decide_wants : (limit : ℕ) (old new : Option (List ℕ)) (formula : List ℕ) → DecideEnds limit old new formula 8
-decide_wants limit old new formula = record {
-  holds = λ is. let none : ⊥ = omega (arith, is) in absurd none;
-  refused = λ is. let none : ⊥ = omega (arith, is) in absurd none;
-  bound = λ is. let none : ⊥ = omega (arith, is) in absurd none;
-  too_long = λ is. let none : ⊥ = omega (arith, is) in absurd none;
-}

@@ -1,10 +1,10 @@
-pub mod Added
-pub mod StartLemmas
 pub mod WriteLemmas
 pub mod AskLemmas
 pub mod SayLemmas
 pub mod Codes
+pub mod Views
 pub mod RunRows
 pub mod ShowRows
 pub mod DecideRows
 pub mod TopRows
+pub mod WithoutRuns

@@ -1,10 +1,12 @@
 -- A text of which a beginning was written, or all of it.
-use Rattle.std.proofs.Common.{ℕ, List, take, length, Result, Ok, Err, OnOk, IfErr, subst, sym}
+use Rattle.std.proofs.Common.{◌≡◌, ◌<◌, ℕ, List, take, length, Result, Ok, Err, OnOk, OnErr, IfErr, inl, inr}
 use Rattle.std.specs.declared.option.Option.{Option}
 use Rattle.std.specs.Io.KnownBytes.{Appends}
-use Rattle.std.proofs.Math.Seq.{take-length}
+use Rattle.rast_io.specs.Causes.{Rose}
 use Rattle.rast_io.specs.declared.whole.WriteFault.{WriteFault}
+use Rattle.rast_cli.specs.Answered.{IsWritten}
 
-pub taken_some : (old new : Option (List ℕ)) (text : List ℕ) (r : Result (Unit {0}) WriteFault) → OnOk r (Appends old new text) → IfErr r (λ e. Appends old new (take e.written text)) → (n : ℕ) × Appends old new (take n text)
-taken_some old new text (Ok u) p q = (length text, subst (λ (t : List ℕ). Appends old new t) (sym (take-length text)) p)
-taken_some old new text (Err e) p q = (e.written, q)
+pub written : (old new : Option (List ℕ)) (before now : ℕ) (text : List ℕ) (r : Result (Unit {0}) WriteFault) → OnOk r (Appends old new text) → OnOk r (now ≡ before)
+    → OnErr r (Rose before now) → IfErr r (λ e. e.written < length text) → IfErr r (λ e. Appends old new (take e.written text)) → IsWritten old new before now text
+written old new before now text (Ok u) whole kept rose fewer part = inl (kept, whole)
+written old new before now text (Err e) whole kept rose fewer part = inr (rose, (e.written, fewer, part))

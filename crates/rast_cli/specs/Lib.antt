@@ -1,6 +1,7 @@
-pub mod Tables
 pub mod Lines
 pub mod Held
 pub mod Reported
 pub mod Answered
+pub mod Found
+pub mod WithoutRuns
 pub mod Rows

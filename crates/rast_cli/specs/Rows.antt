@@ -1,5 +1,5 @@
 -- What the exit status says, for each command.
-use Rattle.std.specs.Prelude.{◌≡◌, ◌⊎◌, ℕ, Bool, ◌<◌, List, [], length, codes, Ok}
+use Rattle.std.specs.Prelude.{◌≡◌, ◌⊎◌, ℕ, Bool, List, [], length, codes, Ok}
 use Rattle.std.specs.declared.option.Option.{Option}
 use Rattle.std.specs.Io.KnownBytes.{Appends}
 use Rattle.rast_io.specs.Bytes.{Named}
@@ -16,8 +16,18 @@ use Rattle.rast_formula.specs.Variables.{numbered}
 use Rattle.rast_decide.specs.declared.decision.Decision.{Decision}
 use Rattle.rast_decide.specs.Decides.{Decides, IsForm}
 use Rattle.rast_decide.specs.Lines.{status_of}
-use Rattle.rast_cli.specs.Held.{IsTooLong, IsNoProgram, IsFaulty}
-use Rattle.rast_cli.specs.Answered.{RunsFile, ShowsFile}
+use Rattle.rast_accept.specs.declared.refusal.Refusal.{Refusal}
+use Rattle.rast_accept.specs.Lines.{refusal_line, refusal_status}
+use Rattle.rast_cli.specs.Held.{IsTooLong, IsRefusedFile, HasNoExec, IsFaulty}
+use Rattle.rast_cli.specs.Answered.{RunsFile, AcceptsFile, ShowsFile}
+
+-- the file says no accepted program for a reason of this status, and the sink gained the reason's line
+abbrev pub IsRefusedWith : ℕ → Option Named → Option (List ℕ) → Option (List ℕ) → List ℕ → ℕ → Type 0
+IsRefusedWith limit held old new name status = (why : Refusal) × IsRefusedFile limit held name why × (refusal_status why ≡ status) × Appends old new (refusal_line why)
+
+-- the file says an accepted program that executes nothing, and the sink gained the line of it
+abbrev pub IsNoExec : ℕ → Option Named → Option (List ℕ) → Option (List ℕ) → List ℕ → Type 0
+IsNoExec limit held old new name = HasNoExec limit held name × Appends old new (codes "refused: no exec\n")
 
 -- a run of this outcome was made, and the sink gained its report
 abbrev pub IsReported : ℕ → Option Named → Option (List ℕ) → Option (List ℕ) → List ℕ → ℕ → Bool → Outcome → List Event → Type 0
@@ -26,11 +36,19 @@ IsReported limit held old new name budget trace outcome history = (text : List �
 -- `rast run`
 pub record RunEnds (limit : ℕ) (held : Option Named) (old new : Option (List ℕ)) (name : List ℕ) (budget : ℕ) (trace : Bool) (history : List Event) (status : ℕ) : Type 0 where
   pub finished : status ≡ 0 → IsReported limit held old new name budget trace Finished history
-  pub not_yet : status ≡ 1 → IsNoProgram limit held name
+  pub refused : status ≡ 1 → IsRefusedWith limit held old new name 1 ⊎ IsNoExec limit held old new name
+  pub bound : status ≡ 5 → IsRefusedWith limit held old new name 5
   pub out_of_budget : status ≡ 6 → IsReported limit held old new name budget trace OutOfBudget history
   pub index_limit : status ≡ 7 → (pid : Pid) × (value : ℕ) × IsReported limit held old new name budget trace (IndexLimit pid value) history
   pub too_long : status ≡ 9 → IsTooLong limit held name
   pub blocked : status ≡ 10 → IsReported limit held old new name budget trace Blocked history
+
+-- `rast check`
+pub record CheckEnds (limit : ℕ) (held : Option Named) (old new : Option (List ℕ)) (name : List ℕ) (status : ℕ) : Type 0 where
+  pub accepted : status ≡ 0 → AcceptsFile limit held name × Appends old new (codes "accepted\n")
+  pub refused : status ≡ 1 → IsRefusedWith limit held old new name 1
+  pub bound : status ≡ 5 → IsRefusedWith limit held old new name 5
+  pub too_long : status ≡ 9 → IsTooLong limit held name
 
 -- the sink gained the canonical text of the file
 abbrev pub IsShown : ℕ → Option Named → Option (List ℕ) → Option (List ℕ) → List ℕ → Type 0

@@ -1,6 +1,6 @@
 // What is to be written, and why.
 ghost use Rattle.std.specs.Prelude.{◌≡◌, IfOk};
-ghost use Rattle.rast_cli.specs.Answered.{IsRefusal};
+ghost use Rattle.rast_cli.specs.Answered.{HasLine};
 
 use crate::answer::{Answer, line};
 use rast_items::Event;
@@ -14,10 +14,10 @@ pub(crate) struct Said {
     pub(crate) history: Vec<Event>,
 }
 
-// A refusal has its line, and no run.
-pub(crate) fn refuse(alloc: Global, answer: Answer) -> Result<Said, AllocError>
+// An answer with its line, and no run.
+pub(crate) fn say_line(alloc: Global, answer: Answer) -> Result<Said, AllocError>
     ensures answer { IfOk result (λ said. said.answer ≡ answer) }
-    ensures refusal { IfOk result (λ said. IsRefusal answer said.text.items said.history.items) }
+    ensures line { IfOk result (λ said. HasLine answer said.text.items said.history.items) }
 {
     Ok(Said {
         answer,

@@ -4,7 +4,7 @@ ghost use Rattle.rast_io.specs.Causes.{Rose};
 ghost use Rattle.rast_cli.specs.Answered.{ShowComes};
 
 use crate::answer::Answer;
-use crate::said::{Said, refuse};
+use crate::said::{Said, say_line};
 use rast_io::{Files, LIMIT, ReadErr, read_all};
 use rast_load::{TextErr, read};
 use rast_print::print;
@@ -20,13 +20,13 @@ pub(crate) fn say_text<F: Files>(
 {
     let bytes = match read_all(alloc, files, name) {
         Ok(bytes) => bytes,
-        Err(ReadErr::Fault) => return refuse(alloc, Answer::ReadFault),
-        Err(ReadErr::TooLong) => return refuse(alloc, Answer::TooLong),
+        Err(ReadErr::Fault) => return say_line(alloc, Answer::ReadFault),
+        Err(ReadErr::TooLong) => return say_line(alloc, Answer::TooLong),
         Err(ReadErr::Memory) => return Err(AllocError),
     };
     let file = match read(alloc, &bytes) {
         Ok(file) => file,
-        Err(TextErr::NoFile(fault)) => return refuse(alloc, Answer::NoFile(fault)),
+        Err(TextErr::NoFile(fault)) => return say_line(alloc, Answer::NoFile(fault)),
         Err(TextErr::Memory) => return Err(AllocError),
     };
     Ok(Said {

@@ -4,31 +4,11 @@ use rast_io::{MemFiles, MemSink};
 use std::alloc::{AllocError, Global};
 use std::test::Fail;
 
-const TWO: &str = "explicit
+pub(crate) const TWO: &str = "explicit
 type nat = +{z : 1, s : nat}
 decl two : . |- (x : nat)
 proc x <- two = x.s ; x.s ; x.z ; close x
 exec two
-";
-
-// Two processes, a form that isn't built.
-const COPY: &str = "explicit
-type nat = +{z : 1, s : nat}
-decl two : . |- (x : nat)
-proc x <- two = x.s ; x.s ; x.z ; close x
-decl copy : (y : nat) |- (x : nat)
-proc x <- copy y = case y ( s => x.s ; x <- copy y | z => x.z ; wait y ; close x )
-decl main : . |- (x : nat)
-proc x <- main = y <- two ; x <- copy y
-exec main
-";
-
-const REPORT: &str = "finished
-steps 4
-work 0
-held 0
-time 0
-result s . s . z . end
 ";
 
 // The canonical text of `TWO`.
@@ -43,22 +23,20 @@ proc x <- two =
 exec two
 ";
 
-const NOT_YET: &str = "refused: not yet at byte 0\n";
-
 const USAGE: &str = "usage: rast run|check|explicit|show|decide|trial\n";
 
-const NEVER: u32 = 1_000_000;
+pub(crate) const NEVER: u32 = 1_000_000;
 
 // How the program ended: its status, what the sink took, and how many events the run had.
 #[derive(Drop)]
-struct Ended {
-    status: u8,
-    written: Vec<u8>,
-    events: usize,
+pub(crate) struct Ended {
+    pub status: u8,
+    pub written: Vec<u8>,
+    pub events: usize,
 }
 
 // The program with a file `two.rast`, where the calls of these numbers on the files and the sink fail.
-fn run(
+pub(crate) fn run(
     alloc: Global,
     text: Vec<u8>,
     words: &[&str],
@@ -88,20 +66,17 @@ fn each_status_has_its_text(rt: HostRuntime) -> Result<(), Fail> {
     let alloc = rt.alloc();
     let run_two = ["rast", "run", "two.rast"].as_slice();
     let show = ["rast", "show", "two.rast"].as_slice();
+    let check = ["rast", "check", "two.rast"].as_slice();
     let none = ["rast", "run", "none"].as_slice();
     let rows = [
-        (TWO, run_two, NEVER, NEVER, 0, REPORT, 4),
         (TWO, run_two, 1, NEVER, 3, "read fault\n", 0),
         (TWO, run_two, 2, NEVER, 3, "read fault\n", 0),
         (TWO, run_two, 3, NEVER, 3, "read fault\n", 0),
-        (TWO, run_two, NEVER, 2, 4, "finished\ns", 4),
         (TWO, none, NEVER, NEVER, 3, "read fault\n", 0),
         (TWO, show, NEVER, NEVER, 0, SHOWN, 0),
         (TWO, show, 3, NEVER, 3, "read fault\n", 0),
         (TWO, show, NEVER, 2, 4, "explicit\nt", 0),
-        (COPY, run_two, NEVER, NEVER, 1, NOT_YET, 0),
-        ("#", run_two, NEVER, NEVER, 1, NOT_YET, 0),
-        ("", run_two, NEVER, 1, 4, "", 0),
+        (TWO, check, 1, NEVER, 3, "read fault\n", 0),
         ("", show, NEVER, NEVER, 0, "", 0),
     ];
     for (text, words, read, write, status, want, events) in rows {
@@ -129,6 +104,7 @@ fn other_words_are_a_usage_refusal(rt: HostRuntime) -> Result<(), Fail> {
     let lines = [
         "rast",
         "rast run",
+        "rast check",
         "rast show",
         "rast decide",
         "rast walk two.rast",
@@ -148,6 +124,7 @@ fn other_words_are_a_usage_refusal(rt: HostRuntime) -> Result<(), Fail> {
         "rast run -- two.rast --trace",
         "rast --trace run two.rast",
         "rast show two.rast --budget 5",
+        "rast check two.rast --trace",
         "rast --version",
         "rast -h",
         "rast help",
@@ -160,50 +137,6 @@ fn other_words_are_a_usage_refusal(rt: HostRuntime) -> Result<(), Fail> {
     }
     let ended = run(alloc, Vec::new(alloc), &[], NEVER, NEVER)?;
     assert_eq!(rt; ended.status, 2);
-    Ok(())
-}
-
-#[test]
-fn options_stand_on_either_side(rt: HostRuntime) -> Result<(), Fail> {
-    let alloc = rt.alloc();
-    for (words, status, want, events) in [
-        (
-            ["rast", "run", "two.rast", "--budget", "3"].as_slice(),
-            6,
-            "out of budget\nsteps 3\nwork 0\nheld 0\ntime 0\nresult s . s . z . ...\n",
-            3,
-        ),
-        (
-            ["rast", "run", "--budget=4", "two.rast"].as_slice(),
-            0,
-            REPORT,
-            4,
-        ),
-        (
-            ["rast", "run", "--budget", "1000000", "--", "two.rast"].as_slice(),
-            0,
-            REPORT,
-            4,
-        ),
-        (
-            ["rast", "run", "--trace", "two.rast", "--budget", "1"].as_slice(),
-            6,
-            "1 p0 send p0:0 s @0\nout of budget\nsteps 1\nwork 0\nheld 0\ntime 0\nresult s . ...\n",
-            1,
-        ),
-        (
-            ["rast", "run", "--", "--trace"].as_slice(),
-            3,
-            "read fault\n",
-            0,
-        ),
-        (["rast", "show", "-"].as_slice(), 3, "read fault\n", 0),
-    ] {
-        let ended = run(alloc, TWO.as_bytes().to_vec(alloc)?, words, NEVER, NEVER)?;
-        assert_eq!(rt; ended.status, status);
-        assert_eq!(rt; ended.written.as_slice(), want.as_bytes());
-        assert_eq!(rt; ended.events, events);
-    }
     Ok(())
 }
 
@@ -255,41 +188,6 @@ fn a_file_is_shown_or_refused(rt: HostRuntime) -> Result<(), Fail> {
         ended.written.as_slice(),
         nested(alloc, "() ", 63, "1\n")?.as_slice()
     );
-    Ok(())
-}
-
-#[test]
-fn a_file_has_a_greatest_length(rt: HostRuntime) -> Result<(), Fail> {
-    let alloc = rt.alloc();
-    for (size, status, want) in [
-        (1_048_576, 1, "refused: not yet at byte 0\n"),
-        (1_048_577, 9, "too long\n"),
-    ] {
-        let text = vec![in alloc; 32u8; size]?;
-        let ended = run(alloc, text, &["rast", "run", "two.rast"], NEVER, NEVER)?;
-        assert_eq!(rt; ended.status, status);
-        assert_eq!(rt; ended.written.as_slice(), want.as_bytes());
-    }
-    Ok(())
-}
-
-#[test]
-fn a_long_run_is_out_of_budget(rt: HostRuntime) -> Result<(), Fail> {
-    let alloc = rt.alloc();
-    let mut text = Vec::new(alloc);
-    text.extend_from_slice(
-        b"explicit type nat = +{z : 1, s : nat} decl two : . |- (x : nat) proc x <- two = ",
-    )?;
-    for _ in 0..100_000 {
-        text.extend_from_slice(b"x.s ; ")?;
-    }
-    text.extend_from_slice(b"x.z ; close x exec two")?;
-    let ended = run(alloc, text, &["rast", "run", "two.rast"], NEVER, NEVER)?;
-    assert_eq!(rt; ended.status, 6);
-    assert_eq!(rt; ended.events, 100_000);
-    let head = b"out of budget\nsteps 100000\nwork 0\nheld 0\ntime 0\nresult s . s . ";
-    assert!(rt; ended.written.starts_with(head));
-    assert!(rt; ended.written.ends_with(b"s . ...\n"));
     Ok(())
 }
 

@@ -1,0 +1,17 @@
+pub mod Claims
+pub mod Demands
+pub mod Differs
+pub mod Exposes
+pub mod Faults
+pub mod Fits
+pub mod Instances
+pub mod Judged
+pub mod Labels
+pub mod Premises
+pub mod Scopes
+pub mod Served
+pub mod Serving
+pub mod Showing
+pub mod Tables
+pub mod Trees
+pub mod Walks

@@ -2,5 +2,18 @@
 #![tactic(auto)]
 
 mod answer;
+mod demand;
+mod equality;
+mod equations;
+mod met;
+mod place;
+mod references;
+mod scope;
+mod validity;
+mod walk;
 
 pub use answer::{Part, SameErr};
+pub use equality::same;
+pub use equations::{EquationErr, check_equations};
+pub use scope::{are_closed, is_closed, is_equation_fit, is_formula_fit, is_type_fit};
+pub use validity::{TypeErr, validate, validate_type};

@@ -1,2 +1,4 @@
+pub mod Forms
 pub mod Lines
 pub mod Reading
+pub mod Unbuilt

@@ -1,0 +1,16 @@
+pub mod Called
+pub mod Counts
+pub mod Deals
+pub mod Entries
+pub mod Finished
+pub mod Lates
+pub mod Limits
+pub mod Makings
+pub mod Noted
+pub mod Single
+pub mod Sound
+pub mod Stays
+pub mod Touched
+pub mod Trails
+pub mod Turned
+pub mod Untouched

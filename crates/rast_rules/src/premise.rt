@@ -31,3 +31,19 @@ pub enum Premise {
     /// A part can't be made within the limits.
     Passed { stop: Stop },
 }
+
+impl Premise {
+    ghost use Rattle.std.specs.Prelude.{◌≡◌};
+    ghost use Rattle.rast_rules.specs.Rules.{stops};
+
+    /// Whether no premise is looked at behind it: a test of shape that fails, or a part that can't be made.
+    pub(crate) fn stops(&self) -> bool
+        ensures { result ≡ stops self.now }
+    {
+        match self {
+            Premise::Truth { .. } | Premise::Same { .. } => false,
+            Premise::Shape { ok, .. } => !*ok,
+            Premise::Passed { .. } => true,
+        }
+    }
+}

@@ -19,7 +19,7 @@ use Rattle.clap.proofs.OnLiterals.{clap_on_literals}
 use Rattle.rast_words.specs.CommandLine.{rast}
 use Rattle.rast_words.specs.Asks.{Asks, AsksBy, IsSubcommand, Means}
 use Rattle.rast_words.specs.declared.asked.Command.{Command}
-use Rattle.rast_words.specs.declared.asked.Command.TheVariants.{Run, Show, Decide}
+use Rattle.rast_words.specs.declared.asked.Command.TheVariants.{Run, Check, Show, Decide}
 use Rattle.rast_words.specs.declared.command_line.WordsErr.{WordsErr}
 use Rattle.rast_words.specs.declared.command_line.WordsErr.TheVariants.{Usage}
 use Rattle.rast_words.proofs.Faultless.{faultless_takes, has_only_good_defaults}
@@ -132,11 +132,14 @@ module _ (words : List Text) (m : ArgMatches) (clean : fault_of rast words ≡ [
       let same_name : name ≡ known.0 = ap (λ o. unwrap_or o name) (is_name ∙ (name_row m ∙ ap (option_map (λ p. p.0)) of_row)) in
       let same_rows : matches ≡ known.1 = ap (λ o. unwrap_or o matches) (is_rows ∙ ap (option_map (λ p. p.1)) of_row) in (
         record { taken = are_taken words clean; subcommand = known.2 ∙ ap₂ (λ x y. Some (x, y)) (sym same_name) (sym same_rows) },
-        ⊎_elim (λ run. inl (same_name ∙ run)) (λ others. inr (⊎_elim (λ show. inl (same_name ∙ show)) (λ last. inr (⊎_elim (λ decide. same_name ∙ decide) (λ none. absurd none) last)) others)) known.3,
+        ⊎_elim (λ run. inl (same_name ∙ run)) (λ others. inr (⊎_elim (λ check. inl (same_name ∙ check)) (λ more. inr (⊎_elim (λ show. inl (same_name ∙ show)) (λ last. inr (⊎_elim (λ decide. same_name ∙ decide) (λ none. absurd none) last)) more)) others)) known.3,
       )
 
   pub asks_for : (name : Text) (matches : List Row) (c : Command) → Some name ≡ subcommand_name_of m → Some matches ≡ option_map (λ p. p.1) (subcommand_rows_of m) → Means name matches c → Asks words c
   asks_for name matches (Run file budget trace) is_name is_rows means =
+      let by = found_by name matches is_name is_rows in
+      (matches, subst (λ (n : Text). AsksBy words n matches) means.0 by.0, means.1)
+  asks_for name matches (Check file) is_name is_rows means =
       let by = found_by name matches is_name is_rows in
       (matches, subst (λ (n : Text). AsksBy words n matches) means.0 by.0, means.1)
   asks_for name matches (Show file) is_name is_rows means =

@@ -29,4 +29,4 @@ abbrev pub bare : App
 bare = on_top (λ s. record s { disable_help_subcommand = true; subcommand_required = true }) (new_app (codes "rast"))
 
 abbrev pub rast : App
-rast = with_subcommand (with_subcommand (with_subcommand bare run_app.top) (of_one (codes "show") (codes "file")).top) (of_one (codes "decide") (codes "formula")).top
+rast = with_subcommand (with_subcommand (with_subcommand (with_subcommand bare run_app.top) (of_one (codes "check") (codes "file")).top) (of_one (codes "show") (codes "file")).top) (of_one (codes "decide") (codes "formula")).top

@@ -15,6 +15,11 @@ pub enum Command<'a> {
         /// Whether the events are printed before the report.
         trace: bool,
     },
+    /// Checks the program of a file.
+    Check {
+        /// The file's name.
+        file: &'a str,
+    },
     /// Prints the canonical text of a file.
     Show {
         /// The file's name.

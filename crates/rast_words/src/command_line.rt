@@ -55,12 +55,14 @@ fn rast_command<'a>(alloc: Global) -> Result<clap::Command<'a>, AllocError>
     ensures { IfOk result (λ c. app_of c ≡ rast) }
 {
     let run = run_command(alloc)?;
+    let check = command_of_one(alloc, "check", "file")?;
     let show = command_of_one(alloc, "show", "file")?;
     let decide = command_of_one(alloc, "decide", "formula")?;
     let command = clap::Command::new(alloc, "rast")
         .disable_help_subcommand(true)
         .subcommand_required(true)
         .subcommand(run)?
+        .subcommand(check)?
         .subcommand(show)?
         .subcommand(decide)?;
     Ok(command)
@@ -94,6 +96,10 @@ fn of_subcommand<'a>(name: &str, matches: &ArgMatches<'a>) -> Option<Command<'a>
 {
     if name == "run" {
         return Some(run(matches));
+    }
+    if name == "check" {
+        let file = text(matches, "file");
+        return Some(Command::Check { file });
     }
     if name == "show" {
         let file = text(matches, "file");

@@ -1,15 +1,28 @@
-use Rattle.std.proofs.Common.{◌≡◌, rules}
-use Rattle.rast_cli.proofs.SayLemmas.{refused_not_yet}
-use Rattle.rast_cli.proofs.StartLemmas.{can_start}
+use Rattle.std.proofs.Common.{◌∙◌, ap, not, subst, sym, true≢false}
+use Rattle.rast_terms.specs.declared.program.Program.{Program}
+use Rattle.rast_rules.specs.Plan.{IsForest}
+use Rattle.rast_rules.specs.Rules.{IsAccepted}
+use Rattle.rast_check.specs.Decided.{searched}
+use Rattle.rast_check.proofs.Forests.{forest_clear}
+use Rattle.rast_core.specs.Promises.{CanStart}
 use Rattle.rast_cli.proofs.run.say_run.Goals as goal
 
-pub returns-in-Err-NotYet : goal.returns-in-Err-NotYet
-returns-in-Err-NotYet g c =
-    let bytes = c.in-Ok.ensures.bytes in
-    let none = rw (c.in-Err-NotYet.field-0-is, c.deref.ensures.value) at c.in-Err-NotYet.ensures.exact in
-    let still : g.F.Files.faults c.read_all.new.files ≡ g.F.Files.faults c.args.files.now = search rules in
-    refused_not_yet _ _ _ _ c.args.name.now c.args.budget c.args.trace c.refuse-in-Err-NotYet.result c.in-Ok.bytes.items c.in-Err-NotYet.at bytes.0 bytes.1 none still
-    c.refuse-in-Err-NotYet.ensures.answer c.refuse-in-Err-NotYet.ensures.refusal
+pub report-requires-clause-starts : goal.report-requires-clause-starts
+report-requires-clause-starts g c =
+    let found = rw c.in-Program.is at c.in_ok-checked.ensures in
+    let loaded = found.0 in
+    subst (λ (p : Program). CanStart p) (sym c.program-2.ensures) (c.starts_law.ensures loaded.0 c.in-Program.checked.program loaded.2 (λ none.
+    let some = rw (c.program.ensures, none) at c.is_none.ensures in
+    true≢false (sym (some ∙ ap not c.if-is_none.false))))
 
-pub report-requires : goal.report-requires
-report-requires g c = can_start c.in_ok-program.program c.in-Ok-parse.file c.in_ok-program.ensures
+pub report-requires-clause-accepted : goal.report-requires-clause-accepted
+report-requires-clause-accepted g c =
+    let found = rw c.in-Program.is at c.in_ok-checked.ensures in
+    let loaded = found.0 in
+    subst (λ (p : Program). IsAccepted p) (sym c.program-2.ensures) loaded.2.accepted
+
+pub report-requires-clause-forest : goal.report-requires-clause-forest
+report-requires-clause-forest g c =
+    let found = rw c.in-Program.is at c.in_ok-checked.ensures in
+    let loaded = found.0 in
+    subst (λ (p : Program). IsForest p) (sym c.program-2.ensures) (forest_clear searched c.in-Program.checked.program loaded.2.clear)

@@ -1,0 +1,68 @@
+-- Refusals of the calls are reasons why a text isn't loaded.
+use Rattle.std.proofs.Common.{◌≡◌, ◌∙◌, ℕ, List, Option, None, Result, Ok, Err, refl, sym, ap, subst}
+use Rattle.rast_ast.specs.declared.file.File.{File}
+use Rattle.rast_terms.specs.declared.program.Program.{Program}
+use Rattle.rast_load.specs.declared.form.FormErr.{FormErr}
+use Rattle.rast_load.specs.declared.form.FormErr.TheVariants as form
+use Rattle.rast_load.specs.Reading.{IsFile}
+use Rattle.rast_load.specs.Forms.{IsBuiltFile, IsUnread}
+use Rattle.rast_resolve.specs.declared.fault.NameErr.{NameErr}
+use Rattle.rast_resolve.specs.declared.fault.NameErr.TheVariants as name
+use Rattle.rast_resolve.specs.declared.program.Resolved.{Resolved}
+use Rattle.rast_resolve.specs.Answers.{Answer, Fails}
+use Rattle.rast_resolve.specs.Programs.{resolved}
+use Rattle.rast_rules.specs.Rules.{IsAccepted}
+use Rattle.rast_check.specs.declared.answer.CheckErr.{CheckErr}
+use Rattle.rast_check.specs.declared.answer.CheckErr.TheVariants as check
+use Rattle.rast_check.specs.Decided.{searched}
+use Rattle.rast_check.specs.Formed.{answer}
+use Rattle.rast_check.specs.Refusals.{IsRefusal}
+use Rattle.rast_check.specs.Shown.{Refutes}
+use Rattle.rast_accept.specs.Loading.{Says, Loads, SaysNone, IsUnloaded, of_form, of_names, of_check}
+
+pub read_reason : (text : List ℕ) (why : FormErr) → IsUnread text why → IsUnloaded text (of_form why)
+read_reason text (form.NoFile fault) h = h
+read_reason text (form.NotYet at) h = h
+read_reason text form.Memory h = tt
+
+not_both : (a : Answer Resolved) (e : NameErr) (r : Resolved) → a ≡ Err e → a ≡ Ok r → ⊥
+not_both a e r p q = let x : Answer Resolved = Err e in let y : Answer Resolved = Ok r in let none : x ≡ y = sym p ∙ q in cc
+
+same_value : (a b : Resolved) → let x : Answer Resolved = Ok a in let y : Answer Resolved = Ok b in x ≡ y → a ≡ b
+same_value a b h = cc
+
+module _ (text : List ℕ) (file : File) (is : IsBuiltFile text file) (only : (other : File) → IsFile text other → file ≡ other) where
+  -- what the text says is what the file resolves to
+  said : (program : Program) (s : Says text program) → resolved file ≡ Ok s.resolved_to
+  said program s = ap resolved (only s.file s.is.0) ∙ s.resolved_is
+
+  names_fault : (e : NameErr) → resolved file ≡ Err e → SaysNone text
+  names_fault e h program s = not_both (resolved file) e s.resolved_to h (said program s)
+
+  pub names_reason : (e : NameErr) → Fails (resolved file) e → IsUnloaded text (of_names e)
+  names_reason (name.Unknown n) h = (record { file = file; is = is; faulty = h }, names_fault (name.Unknown n) h)
+  names_reason (name.Twice n) h = (record { file = file; is = is; faulty = h }, names_fault (name.Twice n) h)
+  names_reason (name.Arity n) h = (record { file = file; is = is; faulty = h }, names_fault (name.Arity n) h)
+  names_reason (name.BadMain n) h = (record { file = file; is = is; faulty = h }, names_fault (name.BadMain n) h)
+  names_reason (name.Limit n) h = (record { file = file; is = is; faulty = h }, names_fault (name.Limit n) h)
+  names_reason name.Memory h = tt
+
+  module _ (r : Resolved) (h : resolved file ≡ Ok r) where
+    pub says : Says text r.program
+    says = record { file = file; is = is; resolved_to = r; resolved_is = h; program_is = refl }
+
+    says_one : (other : Program) → Says text other → other ≡ r.program
+    says_one other s = s.program_is ∙ ap (λ (x : Resolved). x.program) (same_value s.resolved_to r (sym (said other s) ∙ h))
+
+    pub check_reason : (e : CheckErr) → IsRefusal (answer searched r.program) e → Refutes r.program e → IsUnloaded text (of_check r.program e)
+    check_reason (check.BadType e) q refutes = (says, says_one, q, refutes)
+    check_reason (check.BadDecl k e) q refutes = (says, says_one, q, refutes)
+    check_reason (check.BadEquation e) q refutes = (says, says_one, q, refutes)
+    check_reason (check.Refused s k e) q refutes = (says, says_one, q, refutes)
+    check_reason (check.Bound s k stop) q refutes = (says, says_one, q, refutes)
+    check_reason (check.Limit s stop) q refutes = (says, says_one, q, refutes)
+    check_reason check.Memory q refutes = tt
+
+    pub loads : (checked : Program) → checked ≡ r.program → IsAccepted checked → answer searched r.program ≡ None → Loads text checked
+    loads checked same accepted clear =
+        record { says = subst (Says text) (sym same) says; only = λ other s. says_one other s ∙ sym same; accepted = accepted; clear = ap (answer searched) same ∙ clear }

@@ -1,0 +1,10 @@
+//! From the text of a file to its accepted program, or to the first reason why there is none.
+#![tactic(auto)]
+
+mod loading;
+mod refusal;
+mod starts;
+
+pub use loading::load;
+pub use refusal::{LoadErr, Refusal, line, status};
+pub use starts::starts_law;

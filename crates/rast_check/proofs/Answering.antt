@@ -1,0 +1,53 @@
+-- The answer of a check.
+use Rattle.std.proofs.Common.{◌≡◌, Bool, true, false, if◌then◌else◌, List, ◌++◌, Some, Result, Ok, Err, refl, sym, ap, ◌∙◌}
+use Rattle.std.specs.Result.{IsErrAnd}
+use Rattle.rast_rules.specs.Rules.{Program}
+use Rattle.rast_types.specs.declared.stop.Stop.TheVariants as stop
+use Rattle.rast_check.specs.Answer.{IsAnswer}
+use Rattle.rast_check.specs.Decided.{searched}
+use Rattle.rast_check.specs.Formed.{IsFormed, answer, is_formed}
+use Rattle.rast_check.specs.Questions.{Question, IsTrueQuestion, TypeBound, questions, type_questions, decl_questions, equation_questions, body_questions, check_answer}
+use Rattle.rast_check.specs.Refusals.{Asked, Clears, IsRefusal}
+use Rattle.rast_check.specs.declared.answer.CheckErr.{CheckErr}
+use Rattle.rast_check.proofs.Every.{all_every}
+use Rattle.rast_check.proofs.Laws.{accepted}
+use Rattle.rast_check.proofs.Leads.{Leads, error_of, leads_start, leads_step, asked_last, asked_stop, refusal_is}
+
+answer_formed : (g : Program) → is_formed g ≡ true → answer searched g ≡ check_answer searched g
+answer_formed g h = ap (λ (b : Bool). if b then check_answer searched g else Some (TypeBound 0 stop.Variables)) h
+
+pub answered : {X : Type 0} (g : Program) (t : Bool) (r : Result X CheckErr) → t ≡ is_formed g → t ≡ true → IsFormed g → Asked g (questions g) r → IsAnswer g r
+answered {X} g t (Ok x) e h f a = (answer_formed g (sym e ∙ h) ∙ a.0, accepted g f.forward (all_every (IsTrueQuestion g) (questions g) a.1))
+answered {X} g t (Err why) e h f a = refusal_is _ _ why (sym (answer_formed g (sym e ∙ h))) a
+
+pub unformed : (g : Program) (t : Bool) → t ≡ is_formed g → t ≡ false → answer searched g ≡ Some (TypeBound 0 stop.Variables)
+unformed g t e h = ap (λ (b : Bool). if b then check_answer searched g else Some (TypeBound 0 stop.Variables)) (sym e ∙ h)
+
+-- ---- one part after the other
+
+abbrev pub after_types : Program → List Question
+after_types g = decl_questions g ++ (equation_questions g ++ body_questions g)
+
+abbrev pub after_decls : Program → List Question
+after_decls g = equation_questions g ++ body_questions g
+
+pub leads_types : (g : Program) → Clears g (type_questions g) → Leads g (questions g) (after_types g)
+leads_types g c = leads_step g (questions g) (questions g) (type_questions g) (after_types g) (leads_start g (questions g) (questions g) refl) refl c
+
+pub leads_decls : (g : Program) → Clears g (type_questions g) → Clears g (decl_questions g) → Leads g (questions g) (after_decls g)
+leads_decls g c d = leads_step g (questions g) (after_types g) (decl_questions g) (after_decls g) (leads_types g c) refl d
+
+pub leads_equations : (g : Program) → Clears g (type_questions g) → Clears g (decl_questions g) → Clears g (equation_questions g) → Leads g (questions g) (body_questions g)
+leads_equations g c d e = leads_step g (questions g) (after_decls g) (equation_questions g) (body_questions g) (leads_decls g c d) refl e
+
+pub stops_types : {X : Type 0} (g : Program) (e : CheckErr) (r : Result X CheckErr) → IsErrAnd r (λ f. f ≡ e) → IsRefusal (error_of g (type_questions g)) e → Asked g (questions g) r
+stops_types {X} g e r is h = asked_stop g (questions g) (questions g) (type_questions g) (after_types g) e r (leads_start g (questions g) (questions g) refl) refl is h
+
+pub stops_decls : {X : Type 0} (g : Program) (e : CheckErr) (r : Result X CheckErr) → Clears g (type_questions g) → IsErrAnd r (λ f. f ≡ e) → IsRefusal (error_of g (decl_questions g)) e → Asked g (questions g) r
+stops_decls {X} g e r c is h = asked_stop g (questions g) (after_types g) (decl_questions g) (after_decls g) e r (leads_types g c) refl is h
+
+pub stops_equations : {X : Type 0} (g : Program) (e : CheckErr) (r : Result X CheckErr) → Clears g (type_questions g) → Clears g (decl_questions g) → IsErrAnd r (λ f. f ≡ e) → IsRefusal (error_of g (equation_questions g)) e → Asked g (questions g) r
+stops_equations {X} g e r c d is h = asked_stop g (questions g) (after_decls g) (equation_questions g) (body_questions g) e r (leads_decls g c d) refl is h
+
+pub ends_bodies : {X : Type 0} (g : Program) (r : Result X CheckErr) → Clears g (type_questions g) → Clears g (decl_questions g) → Clears g (equation_questions g) → Asked g (body_questions g) r → Asked g (questions g) r
+ends_bodies {X} g r c d e a = asked_last g (questions g) (body_questions g) r (leads_equations g c d e) a

@@ -1,0 +1,22 @@
+//! All that a check asks of a program, in order, and its answer.
+#![tactic(auto)]
+
+mod answer;
+mod body;
+mod checked;
+mod decision;
+mod decls;
+mod equations;
+mod forest;
+mod formed;
+mod kids;
+mod node;
+mod premise;
+mod scope;
+#[cfg(test)]
+mod tests;
+mod types;
+mod walk;
+
+pub use answer::CheckErr;
+pub use checked::{Checked, check};

@@ -1,0 +1,211 @@
+// Runs of picks, on programs that are read from their texts.
+ghost use Rattle.std.specs.Prelude.{◌<◌, ◌^◌, IfOk, IfSome, length};
+ghost use Rattle.rast_rules.specs.Plan.{IsForest};
+ghost use Rattle.rast_rules.specs.Rules.{IsAccepted};
+ghost use Rattle.rast_core.specs.Promises.{CanStart};
+
+use crate::tests_costs::COINS;
+use crate::tests_sessions::{NUMBERS, SINK};
+use rast_accept::{load, starts_law};
+use rast_check::Checked;
+use rast_core::{ReplayErr, replay};
+use rast_io::LIMIT;
+use rast_items::{Event, Pid};
+use rast_report::report_text;
+use rast_rules::plan;
+use rast_terms::Program;
+use std::alloc::{AllocError, Global};
+use std::test::Fail;
+
+// The accepted program of a text with the item that executes one of its declarations.
+pub(crate) fn program_of(
+    alloc: Global,
+    text: &str,
+    exec: &str,
+) -> Result<Option<Checked>, AllocError>
+    ensures starts { IfOk result (λ o. IfSome o (λ c. CanStart c.program)) }
+    ensures accepted { IfOk result (λ o. IfSome o (λ c. IsAccepted c.program)) }
+    ensures forest { IfOk result (λ o. IfSome o (λ c. IsForest c.program)) }
+{
+    let mut all = text.as_bytes().to_vec(alloc)?;
+    all.extend_from_slice(exec.as_bytes())?;
+    if all.len() > LIMIT {
+        return Ok(None);
+    }
+    let checked = match load(alloc, &all) {
+        Ok(checked) => checked,
+        Err(_) => return Ok(None),
+    };
+    if checked.program().main.is_none() {
+        return Ok(None);
+    }
+    starts_law();
+    Ok(Some(checked))
+}
+
+// What a list of picks comes to.
+#[derive(Drop)]
+enum Told {
+    // The report with its trace, and the work and the held potential together.
+    Report { text: Vec<u8>, total: u128 },
+    // The first pick without an event.
+    Refused(u32),
+    // There is no program.
+    Nothing,
+}
+
+// The work of a run.
+fn spent(history: &[Event]) -> u128 {
+    let mut total = 0u128;
+    for event in history {
+        if let Event::Work { amount, .. } = event {
+            total = total.saturating_add(*amount);
+        }
+    }
+    total
+}
+
+fn replayed(alloc: Global, program: &Program, picks: &[Pid]) -> Result<Told, AllocError>
+    requires starts { CanStart program.now }
+    requires accepted { IsAccepted program.now }
+    requires forest { IsForest program.now }
+    requires few { length picks.now < 2 ^ 32 }
+{
+    let plan = plan(alloc, program)?;
+    match replay(alloc, program, plan, picks) {
+        Ok((config, history)) => {
+            let steps = picks.len() as u32;
+            let outcome = config.outcome(program, steps, steps);
+            let text = report_text(alloc, program, outcome, &config, &history, true, true)?;
+            let total = spent(&history).saturating_add(config.held());
+            Ok(Told::Report { text, total })
+        }
+        Err(ReplayErr::At { place }) => Ok(Told::Refused(place)),
+        Err(ReplayErr::Memory) => Err(AllocError),
+    }
+}
+
+// The picks of a row of digits, each the number of a process.
+fn picks_of(alloc: Global, digits: &[u8]) -> Result<Vec<Pid>, AllocError> {
+    let mut picks = Vec::new(alloc);
+    for digit in digits {
+        picks.push(Pid(digit.wrapping_sub(48) as u32))?;
+    }
+    Ok(picks)
+}
+
+// What the picks of a row of digits come to.
+fn replay_digits(alloc: Global, text: &str, exec: &str, digits: &[u8]) -> Result<Told, AllocError> {
+    let picks = picks_of(alloc, digits)?;
+    if picks.len() > LIMIT {
+        return Ok(Told::Nothing);
+    }
+    match program_of(alloc, text, exec)? {
+        Some(checked) => replayed(alloc, checked.program(), &picks),
+        None => Ok(Told::Nothing),
+    }
+}
+
+const HANDED_ON: &str = "1 p0 spawn p1 two @0
+2 p1 send p1:0 s @0
+3 p0 move p1:0 p0:0 s @0
+4 p1 send p1:1 s @0
+5 p1 send p1:2 z @0
+6 p1 send p1:3 end @0
+finished
+steps 6
+work 0
+held 0
+time 0
+result s . s . z . end
+";
+
+const SENT_AHEAD: &str = "1 p0 spawn p1 relay @0
+2 p0 send p1:0 s @0
+3 p0 send p1:1 z @0
+4 p1 spawn p2 eat @0
+5 p1 move p1:0 p2:0 s @0
+6 p2 take p2:0 s @0
+7 p2 call eat @0
+8 p2 take p1:1 z @0
+9 p2 send p1:2 end @0
+10 p0 take p1:2 end @0
+11 p0 send p0:0 end @0
+finished
+steps 11
+work 0
+held 0
+time 0
+result end
+";
+
+const IN_TURNS: &str = "1 p0 spawn p1 relay @0
+2 p1 spawn p2 eat @0
+3 p0 send p1:0 s @0
+4 p1 move p1:0 p2:0 s @0
+5 p2 take p2:0 s @0
+6 p2 call eat @0
+7 p0 send p1:1 z @0
+8 p2 take p1:1 z @0
+9 p2 send p1:2 end @0
+10 p0 take p1:2 end @0
+11 p0 send p0:0 end @0
+finished
+steps 11
+work 0
+held 0
+time 0
+result end
+";
+
+#[test]
+fn picks_give_their_trace(rt: HostRuntime) -> Result<(), Fail> {
+    let alloc = rt.alloc();
+    for (text, exec, digits, want) in [
+        (NUMBERS, "exec fw", "010111", HANDED_ON),
+        (SINK, "exec main", "00011222200", SENT_AHEAD),
+        (SINK, "exec main", "01012202200", IN_TURNS),
+    ] {
+        match replay_digits(alloc, text, exec, digits.as_bytes())? {
+            Told::Report { text, .. } => assert_eq!(rt; text.as_slice(), want.as_bytes()),
+            _ => assert!(rt; false, "the picks are a run"),
+        }
+    }
+    Ok(())
+}
+
+#[test]
+fn a_pick_without_an_event_is_named(rt: HostRuntime) -> Result<(), Fail> {
+    let alloc = rt.alloc();
+    for (text, exec, digits, want) in [
+        (NUMBERS, "exec fw", "1", 0),
+        (NUMBERS, "exec fw", "00", 1),
+        (NUMBERS, "exec fw", "0100", 3),
+        (NUMBERS, "exec fw", "0101111", 6),
+        (SINK, "exec main", "0002", 3),
+        (SINK, "exec main", "011", 2),
+        (SINK, "exec main", "000112220", 8),
+        (SINK, "exec eat", "0", 0),
+    ] {
+        match replay_digits(alloc, text, exec, digits.as_bytes())? {
+            Told::Refused(place) => assert_eq!(rt; place, want),
+            _ => assert!(rt; false, "a pick has no event"),
+        }
+    }
+    Ok(())
+}
+
+// After each event work and held potential are together what main began with.
+#[test]
+fn no_potential_is_lost(rt: HostRuntime) -> Result<(), Fail> {
+    let alloc = rt.alloc();
+    for digits in [b"001111110000000000000000", b"001100000011000000110000"] {
+        for count in 0..=24 {
+            match replay_digits(alloc, COINS, "", &digits[..count])? {
+                Told::Report { total, .. } => assert_eq!(rt; total, 4),
+                _ => assert!(rt; false, "the picks are a run"),
+            }
+        }
+    }
+    Ok(())
+}

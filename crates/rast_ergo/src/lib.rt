@@ -1,0 +1,8 @@
+//! Potential: what is asked of one who spends it, what is left, and what a gain adds.
+#![tactic(auto)]
+
+mod potential;
+#[cfg(test)]
+mod tests;
+
+pub use potential::{affords, empty, gains, spends};

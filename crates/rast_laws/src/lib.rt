@@ -1,0 +1,16 @@
+//! What holds after every run of an accepted program, as a function without code whose contract is the law.
+#![tactic(auto)]
+
+mod law;
+
+pub use law::sound_law;
+
+#[cfg(test)]
+mod tests {
+    use crate::law::sound_law;
+
+    #[test]
+    fn the_law_is_called() {
+        sound_law();
+    }
+}

@@ -1,0 +1,110 @@
+// Where a node stands.
+ghost use Rattle.std.specs.Prelude.{◌≡◌, ◌==◌, IfOk, map, reverse, slice_get};
+ghost use Rattle.std.specs.List.{list_any};
+ghost use Rattle.rast_lines.specs.Places as places;
+
+use rast_terms::{Decl, Node, Program};
+use sqlite_items::Items;
+use std::alloc::{AllocError, Global};
+
+/// The nodes above a node, from the body of its declaration on, where children have greater numbers than their parent.
+pub(crate) fn nodes_above(
+    alloc: Global,
+    program: &Program,
+    node: u32,
+) -> Result<Items<u32>, AllocError>
+    ensures { IfOk result (λ ns. ns ≡ places.nodes_above program.now node) }
+{
+    let mut above = Items::new(alloc);
+    let mut child = node;
+    let mut number = node;
+    while number > 0 {
+        number -= 1;
+        if is_below(program, child, number) {
+            above.push(number)?;
+            child = number;
+        }
+    }
+    reversed(alloc, above)
+}
+
+fn reversed(alloc: Global, numbers: Items<u32>) -> Result<Items<u32>, AllocError>
+    ensures { IfOk result (λ ns. ns ≡ reverse numbers) }
+{
+    let mut numbers = numbers;
+    let mut turned = Items::new(alloc);
+    while let Some(number) = numbers.pop() {
+        turned.push(number)?;
+    }
+    Ok(turned)
+}
+
+/// The number of the declaration in which a node stands; `above` has the nodes above it.
+pub(crate) fn decl_of(program: &Program, node: u32, above: &[u32]) -> usize
+    requires { above.now ≡ places.nodes_above program.now node }
+    ensures { result ≡ places.decl_of program.now node }
+{
+    let body = match above.first() {
+        Some(body) => *body,
+        None => node,
+    };
+    first_with(program.decls.as_slice(), body)
+}
+
+// The number of the first declaration that has this body.
+fn first_with(decls: &[Decl], body: u32) -> usize
+    ensures { result ≡ places.decl_from 0 decls.now body }
+{
+    for (number, decl) in decls.iter().enumerate() {
+        if decl.body == body {
+            return number;
+        }
+    }
+    0
+}
+
+// Whether a node is a child of the one with this number.
+fn is_below(program: &Program, node: u32, number: u32) -> bool
+    ensures { result ≡ places.is_below node (slice_get program.now.nodes number) }
+{
+    match program.nodes.get(number as usize) {
+        Some(parent) => is_child(node, parent),
+        None => false,
+    }
+}
+
+fn is_child(node: u32, parent: &Node) -> bool
+    ensures { result ≡ places.is_child node parent.now }
+{
+    match parent {
+        Node::Label { next, .. } => *next == node,
+        Node::Case { branches, .. } => is_end(node, branches.as_slice()),
+        Node::Send { next, .. } => *next == node,
+        Node::Recv { next, .. } => *next == node,
+        Node::Index { next, .. } => *next == node,
+        Node::Bind { next, .. } => *next == node,
+        Node::Assert { next, .. } => *next == node,
+        Node::Assume { next, .. } => *next == node,
+        Node::Pay { next, .. } => *next == node,
+        Node::Get { next, .. } => *next == node,
+        Node::Close { .. } => false,
+        Node::Wait { next, .. } => *next == node,
+        Node::Forward { .. } => false,
+        Node::Spawn { next, .. } => *next == node,
+        Node::Call { .. } => false,
+        Node::Impossible => false,
+        Node::Work { next, .. } => *next == node,
+        Node::Delay { next, .. } => *next == node,
+    }
+}
+
+fn is_end(node: u32, branches: &[(u32, u32)]) -> bool
+    ensures { result ≡ list_any (λ m. m == node) (map (λ b. b.1) branches.now) }
+{
+    for (_, end) in branches {
+        if *end == node {
+            return true;
+        }
+    }
+    false
+}

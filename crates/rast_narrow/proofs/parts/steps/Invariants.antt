@@ -1,8 +1,0 @@
-use Rattle.std.proofs.Common.{◌≡◌, ◌-◌, length}
-use Rattle.rast_ast.specs.declared.kind.Kind.TheVariants as kind
-use Rattle.rast_narrow.specs.Reading.{many_read, step_read}
-use Rattle.rast_narrow.proofs.Many.{front}
-use Rattle.rast_narrow.proofs.parts.steps.Given as goal
-
-abbrev pub invariant-loop-turn : goal.invariant-loop-turn
-invariant-loop-turn l = front l.labels (many_read kind.Name (step_read l.channel) (length l.initial.reader - l._turn) l.reader) ≡ many_read kind.Name (step_read l.channel) (length l.initial.reader) l.initial.reader

@@ -1,0 +1,14 @@
+pub mod Places
+pub mod Chains
+pub mod Lengths
+pub mod LinearLayers
+pub mod FormulaLayers
+pub mod TypeLayers
+pub mod Weights
+pub mod TermLayers
+pub mod NameLayers
+pub mod Loops
+pub mod Scoped
+pub mod Heads
+pub mod Made
+mod Executed

@@ -1,0 +1,7 @@
+use Rattle.std.proofs.Common.{◌≡◌, take}
+use Rattle.std.specs.List.{flat_map}
+use Rattle.rast_resolve.specs.Names.{def_names}
+use Rattle.rast_resolve.proofs.facts.def_names.Given as goal
+
+abbrev pub invariant-loop-item : goal.invariant-loop-item
+invariant-loop-item l = l.names ≡ flat_map def_names (take l.item-index l.items)

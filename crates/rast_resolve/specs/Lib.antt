@@ -1,0 +1,10 @@
+pub mod Answers
+pub mod Lists
+pub mod Maps
+pub mod Scopes
+pub mod Linears
+pub mod Formulas
+pub mod Types
+pub mod Bodies
+pub mod Names
+pub mod Programs

@@ -1,0 +1,31 @@
+//! Numbers for names: the program that a file says, or its first fault in names.
+#![tactic(auto, using(crate::proofs::Chains::passes, crate::proofs::Chains::fails))]
+
+mod bindings;
+mod bodies;
+mod callees;
+mod facts;
+mod fault;
+mod formulas;
+mod gather;
+mod headers;
+mod index;
+mod known;
+mod linears;
+mod mains;
+mod maps;
+mod parts;
+mod place;
+mod program;
+mod seen;
+mod sizes;
+mod steps;
+mod tables;
+mod terms;
+#[cfg(test)]
+mod tests;
+mod types;
+
+pub use fault::NameErr;
+pub use mains::main_law;
+pub use program::{Resolved, resolve};

@@ -1,0 +1,226 @@
+// Process terms.
+ghost use Rattle.std.specs.Prelude.{◌≡◌, ◌+◌, ◌∷◌, [], map, IfOk, OnOk};
+ghost use Rattle.rast_resolve.specs.Answers.{Gives, Leaves};
+ghost use Rattle.rast_resolve.specs.Bodies.{steps_of, nodes_of, term_nodes, end_of, branch_of, branches_of};
+
+use crate::callees::{called, references};
+use crate::fault::{NameErr, twice};
+use crate::index::Index;
+use crate::known::{Known, narrow, plus};
+use crate::place::Place;
+use crate::steps::step;
+use rast_ast::{Branch, End, Name, Proc, Step};
+use rast_terms::Node;
+use sqlite_items::Items;
+use std::alloc::{AllocError, Global};
+
+// The number that is so much greater.
+fn after(number: u32, more: usize) -> Result<u32, AllocError>
+    ensures { IfOk result (λ sum. sum ≡ number + more) }
+{
+    plus(number, narrow(more)?)
+}
+
+// A list of one node.
+fn alone(alloc: Global, node: Node) -> Result<Items<Node>, AllocError>
+    ensures { IfOk result (λ nodes. nodes ≡ node ∷ []) }
+{
+    let mut nodes = Items::new(alloc);
+    nodes.push(node)?;
+    Ok(nodes)
+}
+
+// The nodes of steps, the first of which has the number `at`. What they bind is bound then.
+fn steps_of(
+    alloc: Global,
+    known: &Known,
+    item: &Name,
+    place: &mut Place,
+    at: u32,
+    written: &[Step],
+) -> Result<Items<Node>, NameErr>
+    ensures { Leaves (steps_of known.now item.now written.now place.old at) result place.new }
+{
+    let mut nodes = Items::new(alloc);
+    let mut next = at;
+    for s in written {
+        next = after(next, 1)?;
+        nodes.push(step(alloc, known, item, place, next, s)?)?;
+    }
+    Ok(nodes)
+}
+
+// The nodes of a term in preorder, the first of which has the number `at`, where this is in scope.
+#[cycle(term)]
+pub(crate) fn nodes_of(
+    alloc: Global,
+    known: &Known,
+    item: &Name,
+    place: &mut Place,
+    at: u32,
+    written: &Proc,
+) -> Result<Items<Node>, NameErr>
+    ensures gives { Gives (nodes_of known.now item.now written.now place.old at) result }
+    ensures kept { OnOk result (place.new ≡ place.old) }
+{
+    term_of(
+        alloc,
+        known,
+        item,
+        place,
+        at,
+        written.steps.as_slice(),
+        written.end.get(),
+    )
+}
+
+// The nodes of steps and then the end.
+#[cycle(term)]
+fn term_of(
+    alloc: Global,
+    known: &Known,
+    item: &Name,
+    place: &mut Place,
+    at: u32,
+    steps: &[Step],
+    last: &End,
+) -> Result<Items<Node>, NameErr>
+    ensures gives { Gives (term_nodes known.now item.now steps.now last.now place.old at) result }
+    ensures kept { OnOk result (place.new ≡ place.old) }
+{
+    let vars = place.vars.len();
+    let channels = place.channels.len();
+    let mut nodes = steps_of(alloc, known, item, place, at, steps)?;
+    let below = end(alloc, known, item, place, after(at, steps.len())?, last)?;
+    nodes.append(below)?;
+    place.vars.truncate(vars);
+    place.channels.truncate(channels);
+    Ok(nodes)
+}
+
+// The nodes of the end of a term.
+#[cycle(term)]
+fn end(
+    alloc: Global,
+    known: &Known,
+    item: &Name,
+    place: &mut Place,
+    at: u32,
+    written: &End,
+) -> Result<Items<Node>, NameErr>
+    ensures gives { Gives (end_of known.now item.now written.now place.old at) result }
+    ensures kept { OnOk result (place.new ≡ place.old) }
+{
+    match written {
+        End::Close(channel) => {
+            let x = place.channel_number(alloc, channel)?;
+            Ok(alone(alloc, Node::Close { x })?)
+        }
+        End::Forward { channel, other, by } => {
+            let x = place.channel_number(alloc, channel)?;
+            let y = place.channel_number(alloc, other)?;
+            let refs = references(alloc, item, &place.vars, by)?;
+            Ok(alone(alloc, Node::Forward { x, y, refs })?)
+        }
+        End::Call {
+            channel,
+            name,
+            args,
+            used,
+            by,
+        } => {
+            let x = place.channel_number(alloc, channel)?;
+            let f = called(
+                alloc,
+                known,
+                item,
+                place,
+                name,
+                args.as_slice(),
+                used.as_slice(),
+                by,
+            )?;
+            let call = Node::Call {
+                x,
+                decl: f.decl,
+                args: f.args,
+                ys: f.ys,
+                refs: f.refs,
+            };
+            Ok(alone(alloc, call)?)
+        }
+        End::Case {
+            channel,
+            first,
+            rest,
+        } => {
+            let x = place.channel_number(alloc, channel)?;
+            let below = after(at, 1)?;
+            match cases(alloc, known, item, place, below, first, rest.as_slice()) {
+                Ok((branches, more)) => {
+                    let mut nodes = alone(alloc, Node::Case { x, branches })?;
+                    nodes.append(more)?;
+                    Ok(nodes)
+                }
+                Err(e) => Err(e),
+            }
+        }
+        End::Impossible => Ok(alone(alloc, Node::Impossible)?),
+    }
+}
+
+// The branches of a case: the labels' numbers with the first nodes, and all nodes, the first of which has the number `at`.
+#[cycle(term)]
+fn cases(
+    alloc: Global,
+    known: &Known,
+    item: &Name,
+    place: &mut Place,
+    at: u32,
+    first: &Branch,
+    rest: &[Branch],
+) -> Result<(Items<(u32, u32)>, Items<Node>), NameErr>
+    ensures gives { Gives (branches_of known.now.names [] (map (branch_of known.now item.now) (first.now ∷ rest.now)) place.old at) result }
+    ensures kept { OnOk result (place.new ≡ place.old) }
+{
+    let mut seen = Index::new(alloc);
+    let mut heads = Items::new(alloc);
+    seen.push(alloc, &first.label)?;
+    let mut nodes = nodes_of(alloc, known, item, place, at, &first.body)?;
+    heads.push((known.number(&first.label)?, at))?;
+    let here = after(at, nodes.len())?;
+    let (more, below) = branches(alloc, known, item, place, here, &mut seen, rest)?;
+    heads.append(more)?;
+    nodes.append(below)?;
+    Ok((heads, nodes))
+}
+
+// The same of further branches, with none of the labels that the case has already.
+#[cycle(term)]
+fn branches(
+    alloc: Global,
+    known: &Known,
+    item: &Name,
+    place: &mut Place,
+    at: u32,
+    seen: &mut Index,
+    rest: &[Branch],
+) -> Result<(Items<(u32, u32)>, Items<Node>), NameErr>
+    ensures gives { Gives (branches_of known.now.names seen.old (map (branch_of known.now item.now) rest.now) place.old at) result }
+    ensures kept { OnOk result (place.new ≡ place.old) }
+{
+    let mut heads = Items::new(alloc);
+    let mut nodes = Items::new(alloc);
+    let mut here = at;
+    for branch in rest {
+        if seen.has(&branch.label) {
+            return Err(twice(alloc, &branch.label));
+        }
+        seen.push(alloc, &branch.label)?;
+        let more = nodes_of(alloc, known, item, place, here, &branch.body)?;
+        heads.push((known.number(&branch.label)?, here))?;
+        here = after(here, more.len())?;
+        nodes.append(more)?;
+    }
+    Ok((heads, nodes))
+}

@@ -1,0 +1,217 @@
+// Types.
+ghost use Rattle.std.specs.Prelude.{◌≡◌, ◌++◌, ◌∷◌, [], map, OnOk};
+ghost use Rattle.rast_resolve.specs.Answers.{Gives};
+ghost use Rattle.rast_resolve.specs.Types.{named, type_of, atom_of, choice_of, choices, prefixed};
+
+use crate::bindings::Bindings;
+use crate::fault::{NameErr, arity, twice, unknown};
+use crate::formulas::formula;
+use crate::index::Index;
+use crate::known::{Known, narrow};
+use crate::linears::{constant, linear, linears};
+use rast_ast::{Atom, Choice, Lin, Name, Prefix, TypeExpr};
+use rast_types::Ty;
+use sqlite_items::{Boxed, Items};
+use std::alloc::Global;
+
+// A definition by its name, with its arguments.
+fn named(
+    alloc: Global,
+    known: &Known,
+    item: &Name,
+    vars: &Bindings,
+    name: &Name,
+    args: &[Lin],
+) -> Result<Ty, NameErr>
+    ensures { Gives (named known.now item.now name.now args.now vars.now) result }
+{
+    let Some(def) = known.types.place(name) else {
+        return Err(unknown(alloc, name));
+    };
+    let Some(params) = known.params.get(def) else {
+        return Err(unknown(alloc, name));
+    };
+    if args.len() != *params {
+        return Err(arity(alloc, name));
+    }
+    let args = linears(alloc, item, false, vars, args)?;
+    Ok(Ty::Named(narrow(def)?, args))
+}
+
+// The type that a written one stands for, in the item of this name, among these variables.
+#[cycle(type_of)]
+pub(crate) fn type_of(
+    alloc: Global,
+    known: &Known,
+    item: &Name,
+    vars: &mut Bindings,
+    written: &TypeExpr,
+) -> Result<Ty, NameErr>
+    ensures gives { Gives (type_of known.now item.now written.now vars.old) result }
+    ensures kept { OnOk result (vars.new ≡ vars.old) }
+{
+    match written {
+        TypeExpr::Prefixed(prefix, body) => prefixed(alloc, known, item, vars, prefix, body.get()),
+        TypeExpr::Atom(a) => atom(alloc, known, item, vars, a),
+        TypeExpr::Tensor(a, b) => {
+            let a = atom(alloc, known, item, vars, a)?;
+            let b = type_of(alloc, known, item, vars, b.get())?;
+            Ok(Ty::Tensor(Boxed::new(alloc, a)?, Boxed::new(alloc, b)?))
+        }
+        TypeExpr::Lolli(a, b) => {
+            let a = atom(alloc, known, item, vars, a)?;
+            let b = type_of(alloc, known, item, vars, b.get())?;
+            Ok(Ty::Lolli(Boxed::new(alloc, a)?, Boxed::new(alloc, b)?))
+        }
+    }
+}
+
+// A type below a prefix.
+#[cycle(type_of)]
+fn prefixed(
+    alloc: Global,
+    known: &Known,
+    item: &Name,
+    vars: &mut Bindings,
+    prefix: &Prefix,
+    body: &TypeExpr,
+) -> Result<Ty, NameErr>
+    ensures gives { Gives (prefixed item.now prefix.now (type_of known.now item.now body.now) vars.old) result }
+    ensures kept { OnOk result (vars.new ≡ vars.old) }
+{
+    match prefix {
+        Prefix::Ex(name) => {
+            let a = below(alloc, known, item, vars, name, body)?;
+            Ok(Ty::Ex(Boxed::new(alloc, a)?))
+        }
+        Prefix::All(name) => {
+            let a = below(alloc, known, item, vars, name, body)?;
+            Ok(Ty::All(Boxed::new(alloc, a)?))
+        }
+        Prefix::Assert(form) => {
+            let f = formula(alloc, item, vars, form)?;
+            let a = type_of(alloc, known, item, vars, body)?;
+            Ok(Ty::Assert(f, Boxed::new(alloc, a)?))
+        }
+        Prefix::Assume(form) => {
+            let f = formula(alloc, item, vars, form)?;
+            let a = type_of(alloc, known, item, vars, body)?;
+            Ok(Ty::Assume(f, Boxed::new(alloc, a)?))
+        }
+        Prefix::Pays(l) => {
+            let p = linear(alloc, item, false, vars, l)?;
+            let a = type_of(alloc, known, item, vars, body)?;
+            Ok(Ty::Pays(p, Boxed::new(alloc, a)?))
+        }
+        Prefix::Gets(l) => {
+            let p = linear(alloc, item, false, vars, l)?;
+            let a = type_of(alloc, known, item, vars, body)?;
+            Ok(Ty::Gets(p, Boxed::new(alloc, a)?))
+        }
+        Prefix::NextOne => {
+            let a = type_of(alloc, known, item, vars, body)?;
+            Ok(Ty::Next(constant(1), Boxed::new(alloc, a)?))
+        }
+        Prefix::Next(l) => {
+            let t = linear(alloc, item, false, vars, l)?;
+            let a = type_of(alloc, known, item, vars, body)?;
+            Ok(Ty::Next(t, Boxed::new(alloc, a)?))
+        }
+    }
+}
+
+// A type below a quantifier.
+#[cycle(type_of)]
+fn below(
+    alloc: Global,
+    known: &Known,
+    item: &Name,
+    vars: &mut Bindings,
+    name: &Name,
+    body: &TypeExpr,
+) -> Result<Ty, NameErr>
+    ensures gives { Gives (type_of known.now item.now body.now (vars.old ++ name.now ∷ [])) result }
+    ensures kept { OnOk result (vars.new ≡ vars.old) }
+{
+    let outer = vars.len();
+    vars.push(alloc, name)?;
+    let a = type_of(alloc, known, item, vars, body)?;
+    vars.truncate(outer);
+    Ok(a)
+}
+
+#[cycle(type_of)]
+fn atom(
+    alloc: Global,
+    known: &Known,
+    item: &Name,
+    vars: &mut Bindings,
+    written: &Atom,
+) -> Result<Ty, NameErr>
+    ensures gives { Gives (atom_of known.now item.now written.now vars.old) result }
+    ensures kept { OnOk result (vars.new ≡ vars.old) }
+{
+    match written {
+        Atom::One => Ok(Ty::One),
+        Atom::Plus(c) => match choice(alloc, known, item, vars, c.get()) {
+            Ok(ts) => Ok(Ty::Plus(ts)),
+            Err(e) => Err(e),
+        },
+        Atom::With(c) => match choice(alloc, known, item, vars, c.get()) {
+            Ok(ts) => Ok(Ty::With(ts)),
+            Err(e) => Err(e),
+        },
+        Atom::Named(name, args) => named(alloc, known, item, vars, name, args.as_slice()),
+        Atom::Group(a) => type_of(alloc, known, item, vars, a.get()),
+    }
+}
+
+#[cycle(type_of)]
+fn choice(
+    alloc: Global,
+    known: &Known,
+    item: &Name,
+    vars: &mut Bindings,
+    written: &Choice,
+) -> Result<Items<(u32, Ty)>, NameErr>
+    ensures gives { Gives (choice_of known.now item.now written.now vars.old) result }
+    ensures kept { OnOk result (vars.new ≡ vars.old) }
+{
+    let mut seen = Index::new(alloc);
+    let mut parts = Items::new(alloc);
+    seen.push(alloc, &written.label)?;
+    let first = type_of(alloc, known, item, vars, &written.body)?;
+    parts.push((known.number(&written.label)?, first))?;
+    match choices(alloc, known, item, vars, &mut seen, written.rest.as_slice()) {
+        Ok(rest) => {
+            parts.append(rest)?;
+            Ok(parts)
+        }
+        Err(e) => Err(e),
+    }
+}
+
+// Further labels of a choice with their types, none of which it has already.
+#[cycle(type_of)]
+fn choices(
+    alloc: Global,
+    known: &Known,
+    item: &Name,
+    vars: &mut Bindings,
+    seen: &mut Index,
+    written: &[(Name, TypeExpr)],
+) -> Result<Items<(u32, Ty)>, NameErr>
+    ensures gives { Gives (choices known.now.names seen.old (map (λ e. (e.0, type_of known.now item.now e.1)) written.now) vars.old) result }
+    ensures kept { OnOk result (vars.new ≡ vars.old) }
+{
+    let mut parts = Items::new(alloc);
+    for (label, body) in written {
+        if seen.has(label) {
+            return Err(twice(alloc, label));
+        }
+        seen.push(alloc, label)?;
+        let a = type_of(alloc, known, item, vars, body)?;
+        parts.push((known.number(label)?, a))?;
+    }
+    Ok(parts)
+}

@@ -1,0 +1,12 @@
+//! Time: the ticks that pass before a type's head, and the type after a delay.
+#![tactic(auto)]
+
+mod outside;
+mod shifting;
+#[cfg(test)]
+mod tests;
+mod ticks;
+
+pub use outside::{definition, next_of};
+pub use shifting::shift;
+pub use ticks::{lasts, now};
