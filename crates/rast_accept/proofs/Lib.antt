@@ -1,3 +1,3 @@
 pub mod Reasons
+pub mod Made
 pub mod Clear
-pub mod Beginning

@@ -11,6 +11,7 @@ use Rattle.rast_resolve.specs.declared.fault.NameErr.TheVariants as name
 use Rattle.rast_resolve.specs.declared.program.Resolved.{Resolved}
 use Rattle.rast_resolve.specs.Answers.{Answer, Fails}
 use Rattle.rast_resolve.specs.Programs.{resolved}
+use Rattle.rast_made.specs.WellMade.{IsWellMade}
 use Rattle.rast_rules.specs.Rules.{IsAccepted}
 use Rattle.rast_check.specs.declared.answer.CheckErr.{CheckErr}
 use Rattle.rast_check.specs.declared.answer.CheckErr.TheVariants as check
@@ -63,6 +64,6 @@ module _ (text : List ℕ) (file : File) (is : IsBuiltFile text file) (only : (o
     check_reason (check.Limit s stop) q refutes = (says, says_one, q, refutes)
     check_reason check.Memory q refutes = tt
 
-    pub loads : (checked : Program) → checked ≡ r.program → IsAccepted checked → answer searched r.program ≡ None → Loads text checked
-    loads checked same accepted clear =
-        record { says = subst (Says text) (sym same) says; only = λ other s. says_one other s ∙ sym same; accepted = accepted; clear = ap (answer searched) same ∙ clear }
+    pub loads : (checked : Program) → checked ≡ r.program → IsWellMade checked → IsAccepted checked → answer searched r.program ≡ None → Loads text checked
+    loads checked same made accepted clear =
+        record { says = subst (Says text) (sym same) says; only = λ other s. says_one other s ∙ sym same; made = made; accepted = accepted; clear = ap (answer searched) same ∙ clear }

@@ -10,6 +10,7 @@ use Rattle.rast_resolve.specs.declared.fault.NameErr.{NameErr}
 use Rattle.rast_resolve.specs.declared.fault.NameErr.TheVariants as name
 use Rattle.rast_resolve.specs.declared.program.Resolved.{Resolved}
 use Rattle.rast_resolve.specs.Programs.{resolved}
+use Rattle.rast_made.specs.WellMade.{IsWellMade}
 use Rattle.rast_rules.specs.Rules.{IsAccepted}
 use Rattle.rast_check.specs.declared.answer.CheckErr.{CheckErr}
 use Rattle.rast_check.specs.declared.answer.CheckErr.TheVariants as check
@@ -37,10 +38,11 @@ pub record IsNamesFault (text : List ℕ) (e : NameErr) : Type 0 where
   pub is : IsBuiltFile text file
   pub faulty : resolved file ≡ Err e
 
--- the text says this program and no other, which is accepted and has nothing undecided or over a limit
+-- the text says this program and no other, which is well made and accepted and has nothing undecided or over a limit
 pub record Loads (text : List ℕ) (program : Program) : Type 0 where
   pub says : Says text program
   pub only : (other : Program) → Says text other → other ≡ program
+  pub made : IsWellMade program
   pub accepted : IsAccepted program
   pub clear : answer searched program ≡ None
 

@@ -3,8 +3,6 @@
 
 mod loading;
 mod refusal;
-mod starts;
 
 pub use loading::load;
 pub use refusal::{LoadErr, Refusal, line, status};
-pub use starts::starts_law;

@@ -1,11 +1,14 @@
 // The accepted program of a text.
 ghost use Rattle.std.specs.Prelude.{◌≡◌, ◌≤◌, length, IfOk, IfErr};
-ghost use Rattle.rast_accept.specs.Loading.{Loads, IsUnloaded, of_form, of_names, of_check};
+ghost use Rattle.rast_terms.specs.declared.program.Program.{Program};
+ghost use Rattle.rast_made.specs.WellMade.{IsWellMade};
+ghost use Rattle.rast_accept.specs.Loading.{Says, Loads, IsUnloaded, of_form, of_names, of_check};
 
 use crate::refusal::{LoadErr, Refusal};
 use rast_check::{CheckErr, Checked, check};
 use rast_io::LIMIT;
 use rast_load::{FormErr, read_built};
+use rast_meant::meant_law;
 use rast_resolve::{NameErr, resolve};
 use rast_terms::Program;
 use std::alloc::Global;
@@ -46,12 +49,23 @@ fn of_check(program: Program, why: CheckErr) -> LoadErr
     }
 }
 
-/// The accepted program that a text of at most 1,048,576 bytes says.
+/// The accepted program that a text of at most 1,048,576 bytes says. Each program that a text says is well made.
 ///
 /// # Errors
 /// The first reason why it says none: a fault of its text, a token of a form that isn't built, a fault in its names, or a place
 /// of the program that is false, undecided or over a limit, in this order; or want of memory.
 pub fn load(alloc: Global, text: &[u8]) -> Result<Checked, LoadErr>
+    requires { length text.now ≤ LIMIT }
+    ensures loaded { IfOk result (λ checked. Loads text.now checked.program) }
+    ensures unloaded { IfErr result (IsUnloaded text.now) }
+    ensures made { (program : Program) → Says text.now program → IsWellMade program }
+{
+    meant_law();
+    load_text(alloc, text)
+}
+
+// The same, without what holds of every text.
+fn load_text(alloc: Global, text: &[u8]) -> Result<Checked, LoadErr>
     requires { length text.now ≤ LIMIT }
     ensures loaded { IfOk result (λ checked. Loads text.now checked.program) }
     ensures unloaded { IfErr result (IsUnloaded text.now) }

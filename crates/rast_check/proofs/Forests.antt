@@ -1,64 +1,125 @@
--- A program whose places are all marked once is a forest.
-use Rattle.std.proofs.Common.{arith, ◌≡◌, ◌∙◌, ℕ, zero, suc, ◌<◌, Bool, true, false, ◌&&◌, if◌then◌else◌, List, [], ◌∷◌, length, map, Some, None, refl, sym, ap, subst}
-use Rattle.std.specs.Prelude.{slice_get}
-use Rattle.std.specs.Option.{option_map}
-use Rattle.std.proofs.lemmas.Option.{slice_get-map}
+-- A well made program is a forest: a node that had two places would be counted twice.
+use Rattle.std.proofs.Common.{arith, ◌≡◌, ◌∙◌, ℕ, zero, suc, ◌+◌, ◌<◌, ◌≤◌, Bool, true, false, cond, ◌&&◌, if◌then◌else◌, List, [], ◌∷◌, length, Some, None, refl, sym, ap, subst, flat_map}
+use Rattle.std.specs.Prelude.{◌==◌, slice_get, sum_by}
+use Rattle.std.proofs.lemmas.Bool.Decides.{nat_tests}
+use Rattle.std.proofs.lemmas.List.Sums.{sum_by-append, sum_by-cons}
 use Rattle.rast_cooper.proofs.Closed.{and_true}
+use Rattle.rast_made.specs.Made.{is_well_made}
+use Rattle.rast_made.specs.WellMade.{IsWellMade, IsMadeDecl}
+use Rattle.rast_made.proofs.Making.{well_made_is}
 use Rattle.rast_types.specs.declared.stop.Stop.TheVariants as stop
 use Rattle.rast_terms.specs.Nodes.{kids}
 use Rattle.rast_terms.specs.declared.node.Node.{Node}
 use Rattle.rast_rules.specs.Plan.{IsBody, IsKid, IsForest}
 use Rattle.rast_rules.specs.Rules.{Program, Decl}
-use Rattle.rast_check.specs.Forest.{bodies, is_forest, no_marks, places}
-use Rattle.rast_check.specs.Formed.{answer, is_counted, is_formed, is_forward, is_scoped}
-use Rattle.rast_check.specs.Questions.{Decision, IsForward, TypeBound, check_answer}
-use Rattle.rast_check.proofs.Every.{Every, all_every}
-use Rattle.rast_check.proofs.Forming.{forward_is}
-use Rattle.rast_check.proofs.Trees.{none_some, rows_once, some_same}
+use Rattle.rast_check.specs.Formed.{answer, is_counted, is_formed, is_scoped}
+use Rattle.rast_check.specs.Questions.{Decision, TypeBound, check_answer}
+use Rattle.rast_check.proofs.Every.{all_every, every_at}
 
-every_at : {X : Type 0} (P : X → Type 0) (xs : List X) (i : ℕ) (x : X) → Every P xs → slice_get xs i ≡ Some x → P x
-every_at {X} P [] i x h e = absurd (let c : None ≡ Some x = e in cc)
-every_at {X} P (y ∷ xs) zero x h e = subst P (some_same y x e) h.0
-every_at {X} P (y ∷ xs) (suc i) x h e = every_at P xs i x h.1 e
+some_same : {X : Type 0} (x y : X) → Some x ≡ Some y → x ≡ y
+some_same {X} x y e = cc
 
-body_at : (g : Program) (k m : ℕ) → IsBody g k m → slice_get (bodies g) k ≡ Some m
-body_at g k m b = slice_get-map (λ (d : Decl). d.body) g.decls k ∙ ap (option_map (λ (d : Decl). d.body)) b.there ∙ ap Some b.is
+none_some : {X : Type 0} (x : X) → None ≡ Some x → ⊥
+none_some {X} x e = cc
 
-row_at : (g : Program) (n : ℕ) (nd : Node) → slice_get g.nodes n ≡ Some nd → slice_get (map kids g.nodes) n ≡ Some (kids nd)
-row_at g n nd e = slice_get-map kids g.nodes n ∙ ap (option_map kids) e
+-- ---- counts
 
-module _ (g : Program) (h : is_forest g ≡ true) where
+-- a member is counted
+counted : {X : Type 0} (f : X → ℕ) (xs : List X) (i : ℕ) (x : X) → slice_get xs i ≡ Some x → f x ≤ sum_by f xs
+counted {X} f [] i x e = absurd (none_some x e)
+counted {X} f (y ∷ xs) zero x e = let s = sum_by-cons f y xs in let h = ap f (some_same y x e) in omega arith
+counted {X} f (y ∷ xs) (suc i) x e = let s = sum_by-cons f y xs in let h = counted f xs i x e in omega arith
+
+-- two members that count stand in one place, where the sum is 1
+counted_once : {X : Type 0} (f : X → ℕ) (xs : List X) (i j : ℕ) (x y : X) → slice_get xs i ≡ Some x → slice_get xs j ≡ Some y → 1 ≤ f x → 1 ≤ f y → sum_by f xs ≤ 1 → i ≡ j
+counted_once {X} f [] i j x y d e p q h = absurd (none_some x d)
+counted_once {X} f (z ∷ xs) zero zero x y d e p q h = refl
+counted_once {X} f (z ∷ xs) zero (suc j) x y d e p q h =
+    let s = sum_by-cons f z xs in let k = ap f (some_same z x d) in let c = counted f xs j y e in absurd (omega arith)
+counted_once {X} f (z ∷ xs) (suc i) zero x y d e p q h =
+    let s = sum_by-cons f z xs in let k = ap f (some_same z y e) in let c = counted f xs i x d in absurd (omega arith)
+counted_once {X} f (z ∷ xs) (suc i) (suc j) x y d e p q h = let s = sum_by-cons f z xs in ap suc (counted_once f xs i j x y d e p q (omega arith))
+
+counted_flat : {X : Type 0} (f : ℕ → ℕ) (k : X → List ℕ) (xs : List X) → sum_by f (flat_map k xs) ≡ sum_by (λ x. sum_by f (k x)) xs
+counted_flat {X} f k [] = refl
+counted_flat {X} f k (x ∷ xs) =
+    let s = sum_by-append f (k x) (flat_map k xs) in let c = sum_by-cons (λ x. sum_by f (k x)) x xs in let h = counted_flat f k xs in omega arith
+
+abbrev one_at : ℕ → ℕ → ℕ
+one_at m k = cond (k == m) 1 0
+
+itself : (k m : ℕ) → k ≡ m → 1 ≤ one_at m k
+itself k m e = grind (arith, nat_tests)
+
+-- ---- a forest
+
+module _ (g : Program) (w : IsWellMade g) where
+  abbrev as_body : ℕ → Decl → ℕ
+  as_body m d = one_at m d.body
+
+  abbrev as_kids : ℕ → Node → ℕ
+  as_kids m nd = sum_by (one_at m) (kids nd)
+
+  -- the sums of the places of a node
+  once : (m : ℕ) → m < length g.nodes → sum_by (as_body m) g.decls + sum_by (as_kids m) g.nodes ≡ 1
+  once m lt = let p = w.placed m lt in let f = counted_flat (one_at m) kids g.nodes in omega arith
+
+  body_within : (k m : ℕ) → IsBody g k m → m < length g.nodes
+  body_within k m b = subst (λ n. n < length g.nodes) b.is (every_at (IsMadeDecl g) g.decls k b.decl b.there (all_every (IsMadeDecl g) g.decls w.decls)).body
+
+  kid_after : (n i m : ℕ) → IsKid g n i m → (n < m) × (m < length g.nodes)
+  kid_after n i m k = every_at (λ m. (n < m) × (m < length g.nodes)) (kids k.node) i m k.is (all_every (λ m. (n < m) × (m < length g.nodes)) (kids k.node) (w.forward n k.node k.there))
+
+  body_counts : (k m : ℕ) (b : IsBody g k m) → 1 ≤ as_body m b.decl
+  body_counts k m b = itself b.decl.body m b.is
+
+  kid_counts : (n i m : ℕ) (k : IsKid g n i m) → 1 ≤ as_kids m k.node
+  kid_counts n i m k = let h = counted (one_at m) (kids k.node) i m k.is in let e = itself m m refl in omega arith
+
   two_bodies : (k l m : ℕ) → IsBody g k m → IsBody g l m → k ≡ l
-  two_bodies k l m a b = (rows_once (no_marks g.nodes) (places g) 0 0 (bodies g) (bodies g) k l m h refl refl (body_at g k m a) (body_at g l m b)).1
+  two_bodies k l m a b =
+      let o = once m (body_within k m a) in
+      counted_once (as_body m) g.decls k l a.decl b.decl a.there b.there (body_counts k m a) (body_counts l m b) (omega arith)
 
   two_kids : (n p i j m : ℕ) → IsKid g n i m → IsKid g p j m → (n ≡ p) × (i ≡ j)
   two_kids n p i j m a b =
-      let o = rows_once (no_marks g.nodes) (places g) (suc n) (suc p) (kids a.node) (kids b.node) i j m h (row_at g n a.node a.there) (row_at g p b.node b.there) a.is b.is in
-      (omega (arith, o.0), o.1)
+      let o = once m (kid_after n i m a).1 in
+      let same = counted_once (as_kids m) g.nodes n p a.node b.node a.there b.there (kid_counts n i m a) (kid_counts p j m b) (omega arith) in
+      let node = some_same a.node b.node (sym a.there ∙ ap (λ k. slice_get g.nodes k) same ∙ b.there) in
+      let here : slice_get (kids a.node) j ≡ Some m = ap (λ (x : Node). slice_get (kids x) j) node ∙ b.is in
+      let c = counted (as_kids m) g.nodes n a.node a.there in
+      let e = itself m m refl in
+      (same, counted_once (one_at m) (kids a.node) i j m m a.is here (omega arith) (omega arith) (omega arith))
 
   body_and_kid : (k n i m : ℕ) → IsBody g k m → IsKid g n i m → ⊥
   body_and_kid k n i m a b =
-      let o = rows_once (no_marks g.nodes) (places g) 0 (suc n) (bodies g) (kids b.node) k i m h refl (row_at g n b.node b.there) (body_at g k m a) b.is in
-      omega (arith, o.0)
+      let o = once m (body_within k m a) in
+      let c = counted (as_body m) g.decls k a.decl a.there in
+      let d = counted (as_kids m) g.nodes n b.node b.there in
+      let e = body_counts k m a in
+      let f = kid_counts n i m b in
+      omega arith
 
-  pub forest_is : IsForward g → IsForest g
-  forest_is f = record {
-    forward = λ n i m k. (every_at (λ m. (n < m) × (m < length g.nodes)) (kids k.node) i m (all_every (λ m. (n < m) × (m < length g.nodes)) (kids k.node) (f.kids n k.node k.there)) k.is).0;
+  pub forest_is : IsForest g
+  forest_is = record {
+    forward = λ n i m k. (kid_after n i m k).0;
     bodies = two_bodies;
     kids = two_kids;
     apart = body_and_kid;
   }
 
--- a check that refuses nothing was asked of a forest
+-- ---- what was asked of a program that is not refused
+
 formed_clear : (v : Decision) (g : Program) (b : Bool) → is_formed g ≡ b → answer v g ≡ None → b ≡ true
 formed_clear v g true h e = refl
 formed_clear v g false h e =
     let stopped : answer v g ≡ Some (TypeBound 0 stop.Variables) = ap (λ (b : Bool). if b then check_answer v g else Some (TypeBound 0 stop.Variables)) h in
     absurd (none_some (TypeBound 0 stop.Variables) (sym e ∙ stopped))
 
+pub made_clear : (v : Decision) (g : Program) → answer v g ≡ None → IsWellMade g
+made_clear v g e =
+    let a = and_true (is_counted g) (is_scoped g && is_well_made g) (formed_clear v g (is_formed g) refl e) in
+    well_made_is g (and_true (is_scoped g) (is_well_made g) a.1).1
+
 pub forest_clear : (v : Decision) (g : Program) → answer v g ≡ None → IsForest g
-forest_clear v g e =
-    let a = and_true (is_counted g) (is_scoped g && (is_forward g && is_forest g)) (formed_clear v g (is_formed g) refl e) in
-    let b = and_true (is_scoped g) (is_forward g && is_forest g) a.1 in
-    let c = and_true (is_forward g) (is_forest g) b.1 in
-    forest_is g c.1 (forward_is g c.0)
+forest_clear v g e = forest_is g (made_clear v g e)

@@ -22,6 +22,4 @@ pub mod Refuting
 pub mod Remembering
 pub mod Claiming
 pub mod Scoping
-pub mod Trees
 pub mod Forests
-pub mod Marking

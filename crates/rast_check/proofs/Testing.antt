@@ -8,9 +8,6 @@ use Rattle.rast_cooper.specs.Verdicts.{is_within}
 use Rattle.rast_equal.specs.Fit.{AreWithin, IsWithin}
 use Rattle.rast_equal.proofs.Fits.{all_append}
 use Rattle.rast_index.specs.declared.formula.Formula.{Formula}
-use Rattle.rast_check.specs.Formed.{is_after, are_forward}
-use Rattle.rast_terms.specs.Nodes.{kids}
-use Rattle.rast_terms.specs.declared.node.Node.{Node}
 
 -- the test of one more passed
 pub test_step : {X : Type 0} (p : X → Bool) (xs : List X) (i : ℕ) (x : X) → i < length xs → x ≡ get_or xs i x → p x ≡ true → list_all p (drop i xs) ≡ list_all p xs → list_all p (drop (i + 1) xs) ≡ list_all p xs
@@ -23,10 +20,6 @@ taken_step {X} P xs i x h e p k = subst (All P) (sym (take_more xs i x h)) (All-
 
 pub within_taken : (n : ℕ) (fs : List Formula) (i : ℕ) (f : Formula) → i < length fs → f ≡ get_or fs i f → IsWithin n f → AreWithin n (take i fs) → AreWithin n (take (i + 1) fs)
 within_taken n fs i f h e p k m le = ap (list_all (is_within m)) (take_more fs i f h) ∙ all_append (is_within m) (take i fs) (get_or fs i f) (k m le) (ap (is_within m) (sym e) ∙ p m le)
-
-pub forward_step : (size : ℕ) (nds : List Node) (i : ℕ) (nd : Node) → i < length nds → nd ≡ get_or nds i nd → list_all (is_after i size) (kids nd) ≡ true → are_forward size i (drop i nds) ≡ are_forward size 0 nds → are_forward size (i + 1) (drop (i + 1) nds) ≡ are_forward size 0 nds
-forward_step size nds i nd h e t k =
-    sym (ap (λ (b : Bool). b && are_forward size (i + 1) (drop (i + 1) nds)) (ap (λ (x : Node). list_all (is_after i size) (kids x)) (sym e) ∙ t)) ∙ sym (ap (are_forward size i) (drop_more nds i nd h)) ∙ k
 
 -- what holds of the first ones, so many as there are, holds of all
 pub taken_all : {X : Type 0} (P : X → Type 0) (xs : List X) (i : ℕ) → length xs ≤ i → All P (take i xs) → All P xs

@@ -1,17 +1,16 @@
--- Programs in which only the variables in scope occur, and in which each node has one place, with children after their parent.
-use Rattle.std.specs.Prelude.{◌≡◌, ◌≤◌, ◌<◌, All, ℕ, ◌+◌, ◌^◌, Bool, ◌&&◌, nat_le, nat_lt, if◌then◌else◌, true, List, [], ◌∷◌, length, Option, Some}
+-- Programs that are well made, in which at most 16 variables are in scope, and of which the numbers are counted.
+use Rattle.std.specs.Prelude.{◌≡◌, ◌≤◌, ◌<◌, All, ◌+◌, ◌^◌, Bool, ◌&&◌, nat_le, nat_lt, if◌then◌else◌, true, length, Option, Some}
 use Rattle.std.specs.List.{list_all}
 use Rattle.rast_index.specs.Linear.{is_closed}
 use Rattle.rast_cooper.specs.Verdicts.{is_within}
 use Rattle.rast_equal.specs.Fit.{is_within_type, IsWithinType, IsFitTypeDef, IsFitEquation}
+use Rattle.rast_made.specs.Made.{is_well_made}
+use Rattle.rast_made.specs.WellMade.{IsWellMade}
 use Rattle.rast_rules.specs.Plan.{IsForest}
 use Rattle.rast_rules.specs.Rules.{Program, Decl, defs}
-use Rattle.rast_terms.specs.Nodes.{kids}
-use Rattle.rast_terms.specs.declared.node.Node.{Node}
 use Rattle.rast_types.specs.declared.equation.Equation.{Equation}
 use Rattle.rast_types.specs.declared.stop.Stop.TheVariants as stop
 use Rattle.rast_types.specs.declared.table.TypeDef.{TypeDef}
-use Rattle.rast_check.specs.Forest.{is_forest}
 use Rattle.rast_check.specs.Questions.{Decision, Refusal, TypeBound, IsForward, check_answer}
 
 abbrev pub is_fit_def : TypeDef → Bool
@@ -23,15 +22,6 @@ is_fit_decl d = nat_le d.params 16 && (list_all (is_within_type d.params) d.uses
 abbrev pub is_fit_equation : Equation → Bool
 is_fit_equation e = nat_le e.vars 16 && (is_within e.vars e.premise && (is_within_type e.vars e.left && is_within_type e.vars e.right))
 
--- a node between others
-abbrev pub is_after : ℕ → ℕ → ℕ → Bool
-is_after n size m = nat_lt n m && nat_lt m size
-
--- children after their parents, for nodes of which the first has this number
-abbrev pub are_forward : ℕ → ℕ → List Node → Bool
-are_forward size k [] = true
-are_forward size k (nd ∷ nds) = list_all (is_after k size) (kids nd) && are_forward size (k + 1) nds
-
 -- numbers that are counted in 32 bits
 abbrev pub is_counted : Program → Bool
 is_counted g = nat_lt (length (defs g)) (2 ^ 32) && (nat_lt (length g.decls) (2 ^ 32) && nat_lt (length g.equations + 1) (2 ^ 32))
@@ -39,12 +29,9 @@ is_counted g = nat_lt (length (defs g)) (2 ^ 32) && (nat_lt (length g.decls) (2 
 abbrev pub is_scoped : Program → Bool
 is_scoped g = list_all is_fit_def (defs g) && (list_all is_fit_decl g.decls && list_all is_fit_equation g.equations)
 
-abbrev pub is_forward : Program → Bool
-is_forward g = are_forward (length g.nodes) 0 g.nodes && list_all (λ d. nat_lt d.body (length g.nodes)) g.decls
-
 -- what each program is that is made from a text
 abbrev pub is_formed : Program → Bool
-is_formed g = is_counted g && (is_scoped g && (is_forward g && is_forest g))
+is_formed g = is_counted g && (is_scoped g && is_well_made g)
 
 pub record IsFitDecl (d : Decl) : Type 0 where
   pub few : d.params ≤ 16
@@ -66,6 +53,7 @@ pub record IsScoped (g : Program) : Type 0 where
 pub record IsFormed (g : Program) : Type 0 where
   pub counted : IsCounted g
   pub scoped : IsScoped g
+  pub made : IsWellMade g
   pub forward : IsForward g
   pub forest : IsForest g
 

@@ -1,7 +1,6 @@
 pub mod Answer
 pub mod Questions
 pub mod Decided
-pub mod Forest
 pub mod Formed
 pub mod Lifted
 pub mod Refusals

@@ -1,5 +1,6 @@
 // The check of a program.
 ghost use Rattle.std.specs.Prelude.{◌≡◌, None, IfOk, IfErr};
+ghost use Rattle.rast_made.specs.WellMade.{IsWellMade};
 ghost use Rattle.rast_rules.specs.Plan.{IsForest};
 ghost use Rattle.rast_rules.specs.Rules.{IsAccepted};
 ghost use Rattle.rast_check.specs.Answer.{IsAnswer};
@@ -38,12 +39,12 @@ impl Checked {
 /// Checks a program: its type definitions, declarations and equations, and then each node under its judgement.
 ///
 /// An accepted program is kept. Any other is handed back with the first of these places that is false, undecided
-/// or over a limit, in this order; want of memory may always come. A program in which other variables occur than those
-/// in scope, whose nodes don't come after their parents, or in which a node has two places, as none that is made from a text,
-/// stops at definition 0.
+/// or over a limit, in this order; want of memory may always come. A program that isn't well made, as none that is made from a
+/// text, stops at definition 0.
 pub fn check(alloc: Global, program: Program) -> Result<Checked, (Program, CheckErr)>
     ensures kept { IfOk result (λ c. c.program ≡ program) }
     ensures accepted { IfOk result (λ c. IsAccepted c.program) }
+    ensures made { IfOk result (λ c. IsWellMade c.program) }
     ensures forest { IfOk result (λ c. IsForest c.program) }
     ensures none { IfOk result (λ c. answer searched program ≡ None) }
     ensures back { IfErr result (λ e. e.0 ≡ program) }
@@ -58,6 +59,7 @@ pub fn check(alloc: Global, program: Program) -> Result<Checked, (Program, Check
 
 fn check_program(alloc: Global, program: &Program) -> Result<(), CheckErr>
     ensures answer { IsAnswer program.now result }
+    ensures made { IfOk result (λ done. IsWellMade program.now) }
     ensures forest { IfOk result (λ done. IsForest program.now) }
     ensures refutes { IfErr result (Refutes program.now) }
 {

@@ -1,20 +1,17 @@
-// Whether a program is one in which only the variables in scope occur, and in which each node has one place, with children after their parent.
-ghost use Rattle.std.specs.Prelude.{◌≡◌, All, IfOk, IsTrue, length, nat_lt};
+// Whether a program is well made, its numbers are counted, and at most 16 variables are in scope.
+ghost use Rattle.std.specs.Prelude.{◌≡◌, All, IfOk, IsTrue};
 ghost use Rattle.std.specs.List.{list_all};
 ghost use Rattle.rast_equal.specs.Fit as fit;
-ghost use Rattle.rast_rules.specs.Rules.{defs};
-ghost use Rattle.rast_terms.specs.Nodes as nodes;
 ghost use Rattle.rast_check.specs.Formed as formed;
 
-use crate::forest::is_forest;
-use crate::kids::kids;
 use crate::scope::{is_closed, is_within, is_within_type};
-use rast_terms::{Decl, Node, Program};
+use rast_made::well_made;
+use rast_terms::{Decl, Program};
 use rast_types::{Equation, Ty, TypeDef};
 use std::alloc::{AllocError, Global};
 
-/// Whether the program's numbers are counted in 32 bits, only the variables in scope occur in its types, declarations and
-/// equations, and each node has at most one place, as a body or as a child of a node before it.
+/// Whether the program's numbers are counted in 32 bits, at most 16 variables are in scope in its definitions, declarations and
+/// equations, of which no others occur, and the program is well made.
 pub(crate) fn is_formed(alloc: Global, program: &Program) -> Result<bool, AllocError>
     ensures is { IfOk result (λ t. t ≡ formed.is_formed program.now) }
     ensures more { IfOk result (λ t. IsTrue t → formed.IsFormed program.now) }
@@ -25,10 +22,7 @@ pub(crate) fn is_formed(alloc: Global, program: &Program) -> Result<bool, AllocE
     if !is_scoped(alloc, program)? {
         return Ok(false);
     }
-    if !is_forward(alloc, program)? {
-        return Ok(false);
-    }
-    is_forest(alloc, program)
+    well_made(alloc, program)
 }
 
 fn is_counted(program: &Program) -> bool
@@ -145,57 +139,4 @@ fn is_fit_equation(alloc: Global, equation: &Equation) -> Result<bool, AllocErro
         return Ok(false);
     }
     is_within_type(alloc, equation.vars, &equation.right)
-}
-
-fn is_forward(alloc: Global, program: &Program) -> Result<bool, AllocError>
-    ensures { IfOk result (λ b. b ≡ formed.is_forward program.now) }
-{
-    if !are_forward(alloc, program.nodes.as_slice())? {
-        return Ok(false);
-    }
-    Ok(are_bodies_within(program.nodes.len(), program.decls.as_slice()))
-}
-
-fn are_forward(alloc: Global, nodes: &[Node]) -> Result<bool, AllocError>
-    ensures { IfOk result (λ b. b ≡ formed.are_forward (length nodes.now) 0 nodes.now) }
-{
-    for i in 0..nodes.len() {
-        let kids = kids(alloc, &nodes[i])?;
-        if !are_after(i, nodes.len(), kids.as_slice()) {
-            return Ok(false);
-        }
-    }
-    Ok(true)
-}
-
-// Whether all these nodes come after one, and are nodes.
-fn are_after(node: usize, size: usize, kids: &[u32]) -> bool
-    ensures { result ≡ list_all (formed.is_after node size) kids.now }
-{
-    for kid in kids {
-        if !is_after(node, size, *kid as usize) {
-            return false;
-        }
-    }
-    true
-}
-
-fn is_after(node: usize, size: usize, kid: usize) -> bool
-    ensures { result ≡ formed.is_after node size kid }
-{
-    if kid <= node {
-        return false;
-    }
-    kid < size
-}
-
-fn are_bodies_within(size: usize, decls: &[Decl]) -> bool
-    ensures { result ≡ list_all (λ d. nat_lt d.body size) decls.now }
-{
-    for decl in decls {
-        if decl.body as usize >= size {
-            return false;
-        }
-    }
-    true
 }

@@ -7,7 +7,6 @@ mod checked;
 mod decision;
 mod decls;
 mod equations;
-mod forest;
 mod formed;
 mod kids;
 mod node;

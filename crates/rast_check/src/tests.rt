@@ -1,5 +1,6 @@
 // Whole checks of small programs, with answers worked out by hand.
 use crate::{CheckErr, Checked, check};
+use rast_ast::Name;
 use rast_index::{Formula, Lin};
 use rast_terms::{Decl, Node, Program, Said};
 use rast_types::{Equation, Ty, TypeTable};
@@ -19,6 +20,27 @@ fn decl(alloc: Global) -> Decl {
     }
 }
 
+fn names(alloc: Global) -> Result<Items<Name>, AllocError> {
+    let mut names = Items::new(alloc);
+    names.push(Name::new(alloc, b"x")?)?;
+    Ok(names)
+}
+
+// The declaration's one channel has the one name.
+fn said(alloc: Global) -> Result<Said, AllocError> {
+    let mut channel = Items::new(alloc);
+    channel.push(0)?;
+    let mut channels = Items::new(alloc);
+    channels.push(channel)?;
+    let mut decls = Items::new(alloc);
+    decls.push(Items::new(alloc))?;
+    Ok(Said {
+        types: Items::new(alloc),
+        decls,
+        channels,
+    })
+}
+
 // One declaration with this body, and equations.
 fn program(alloc: Global, body: Node, equations: Items<Equation>) -> Result<Program, AllocError> {
     let mut decls = Items::new(alloc);
@@ -26,7 +48,7 @@ fn program(alloc: Global, body: Node, equations: Items<Equation>) -> Result<Prog
     let mut nodes = Items::new(alloc);
     nodes.push(body)?;
     Ok(Program {
-        names: Items::new(alloc),
+        names: names(alloc)?,
         types: TypeTable {
             defs: Items::new(alloc),
         },
@@ -34,11 +56,7 @@ fn program(alloc: Global, body: Node, equations: Items<Equation>) -> Result<Prog
         equations,
         nodes,
         main: Some(0),
-        said: Said {
-            types: Items::new(alloc),
-            decls: Items::new(alloc),
-            channels: Items::new(alloc),
-        },
+        said: said(alloc)?,
     })
 }
 

@@ -72,16 +72,15 @@ refusal_codes (refusal.NotYet at) = inl refl
 refusal_codes (refusal.Names e) = name_codes e
 refusal_codes (refusal.Rules g e) = check_codes e
 
--- 0, 6, 7 or 10
+-- 0, 6 or 7
 abbrev pub IsRunCode : ℕ → Type 0
-IsRunCode code = (code ≡ 0) ⊎ ((code ≡ 6) ⊎ ((code ≡ 7) ⊎ (code ≡ 10)))
+IsRunCode code = (code ≡ 0) ⊎ ((code ≡ 6) ⊎ (code ≡ 7))
 
 pub outcome_codes : (o : Outcome) → IsRunCode (code_of (Ran o))
 outcome_codes outcome.Running = inr (inl refl)
 outcome_codes outcome.Finished = inl refl
 outcome_codes outcome.OutOfBudget = inr (inl refl)
-outcome_codes (outcome.IndexLimit pid value) = inr (inr (inl refl))
-outcome_codes outcome.Blocked = inr (inr (inr refl))
+outcome_codes (outcome.IndexLimit pid value) = inr (inr refl)
 
 pub decision_codes : (d : Decision) → (status_of d ≡ 0) ⊎ ((status_of d ≡ 1) ⊎ ((status_of d ≡ 5) ⊎ (status_of d ≡ 9)))
 decision_codes decision.TooLong = inr (inr (inr refl))

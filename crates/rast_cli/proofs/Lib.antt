@@ -3,6 +3,7 @@ pub mod AskLemmas
 pub mod SayLemmas
 pub mod Codes
 pub mod Views
+pub mod Ending
 pub mod RunRows
 pub mod ShowRows
 pub mod DecideRows

@@ -6,7 +6,7 @@ use Rattle.rast_io.specs.Bytes.{Named}
 use Rattle.rast_items.specs.declared.event.Event.{Event}
 use Rattle.rast_items.specs.declared.link.Pid.{Pid}
 use Rattle.rast_core.specs.declared.answer.Outcome.{Outcome}
-use Rattle.rast_core.specs.declared.answer.Outcome.TheVariants.{Running, Finished, OutOfBudget, IndexLimit, Blocked}
+use Rattle.rast_core.specs.declared.answer.Outcome.TheVariants.{Running, Finished, OutOfBudget, IndexLimit}
 use Rattle.rast_accept.specs.Lines.{refusal_status}
 use Rattle.rast_cli.specs.declared.answer.Answer.{Answer}
 use Rattle.rast_cli.specs.declared.answer.Answer.TheVariants.{Ran}
@@ -16,17 +16,18 @@ use Rattle.rast_cli.specs.Answered.{RunsFile, AcceptsFile, RunComes, CheckComes,
 use Rattle.rast_cli.specs.Rows.{IsRefusedWith, IsNoExec, RunEnds, CheckEnds}
 use Rattle.rast_cli.proofs.Codes.{refusal_codes, outcome_codes, at_code}
 use Rattle.rast_cli.proofs.Views.{NoneView, RunView, CheckView, run_view, check_view}
+use Rattle.rast_cli.proofs.Ending.{sound_run}
 
 -- a status that no refusal has
 other_refusal : (k r : ℕ) → k ≡ r → (r ≡ 1) ⊎ (r ≡ 5) → (k ≡ 1 → ⊥) → (k ≡ 5 → ⊥) → ⊥
 other_refusal k r e c one five = ⊎_elim (λ is. one (e ∙ is)) (λ is. five (e ∙ is)) c
 
 -- a status that no run has
-other_run : (k : ℕ) (o : Outcome) → k ≡ code_of (Ran o) → (k ≡ 0 → ⊥) → (k ≡ 6 → ⊥) → (k ≡ 7 → ⊥) → (k ≡ 10 → ⊥) → ⊥
-other_run k o e zero six seven ten = ⊎_elim (λ is. zero (e ∙ is)) (λ a. ⊎_elim (λ is. six (e ∙ is)) (λ b. ⊎_elim (λ is. seven (e ∙ is)) (λ is. ten (e ∙ is)) b) a) (outcome_codes o)
+other_run : (k : ℕ) (o : Outcome) → k ≡ code_of (Ran o) → (k ≡ 0 → ⊥) → (k ≡ 6 → ⊥) → (k ≡ 7 → ⊥) → ⊥
+other_run k o e zero six seven = ⊎_elim (λ is. zero (e ∙ is)) (λ a. ⊎_elim (λ is. six (e ∙ is)) (λ is. seven (e ∙ is)) a) (outcome_codes o)
 
 module _ (limit : ℕ) (held : Option Named) (rose quiet : Type 0) (name : List ℕ) (text : List ℕ) (old new : Option (List ℕ)) (printed : Appends old new text) where
-  -- where there is no accepted program, at the statuses 0, 6, 7 and 10, and at 1, 5 and 9
+  -- where there is no accepted program, at the statuses 0, 6 and 7, and at 1, 5 and 9
   none_other : (k : ℕ) → (k ≡ 3 → ⊥) → (k ≡ 9 → ⊥) → (k ≡ 1 → ⊥) → (k ≡ 5 → ⊥) → NoneView limit held rose quiet name k text → ⊥
   none_other k three nine one five (inl fault) = three fault.0
   none_other k three nine one five (inr (inl long)) = nine long.0
@@ -52,28 +53,18 @@ module _ (limit : ℕ) (held : Option Named) (rose quiet : Type 0) (name : List 
     zero_is Finished e r = r
     zero_is OutOfBudget e r = let none : ⊥ = omega (arith, e) in absurd none
     zero_is (IndexLimit pid value) e r = let none : ⊥ = omega (arith, e) in absurd none
-    zero_is Blocked e r = let none : ⊥ = omega (arith, e) in absurd none
 
     six_is : (o : Outcome) → 6 ≡ code_of (Ran o) → RunsFile limit held name budget trace o text history → RunsFile limit held name budget trace OutOfBudget text history
     six_is Running e r = absurd (no_running r)
     six_is Finished e r = let none : ⊥ = omega (arith, e) in absurd none
     six_is OutOfBudget e r = r
     six_is (IndexLimit pid value) e r = let none : ⊥ = omega (arith, e) in absurd none
-    six_is Blocked e r = let none : ⊥ = omega (arith, e) in absurd none
 
     seven_is : (o : Outcome) → 7 ≡ code_of (Ran o) → RunsFile limit held name budget trace o text history → (pid : Pid) × (value : ℕ) × RunsFile limit held name budget trace (IndexLimit pid value) text history
     seven_is Running e r = absurd (no_running r)
     seven_is Finished e r = let none : ⊥ = omega (arith, e) in absurd none
     seven_is OutOfBudget e r = let none : ⊥ = omega (arith, e) in absurd none
     seven_is (IndexLimit pid value) e r = (pid, value, r)
-    seven_is Blocked e r = let none : ⊥ = omega (arith, e) in absurd none
-
-    ten_is : (o : Outcome) → 10 ≡ code_of (Ran o) → RunsFile limit held name budget trace o text history → RunsFile limit held name budget trace Blocked text history
-    ten_is Running e r = absurd (no_running r)
-    ten_is Finished e r = let none : ⊥ = omega (arith, e) in absurd none
-    ten_is OutOfBudget e r = let none : ⊥ = omega (arith, e) in absurd none
-    ten_is (IndexLimit pid value) e r = let none : ⊥ = omega (arith, e) in absurd none
-    ten_is Blocked e r = r
 
     -- a status that only a run has
     ran_at : (k : ℕ) → (k ≡ 3 → ⊥) → (k ≡ 9 → ⊥) → (k ≡ 1 → ⊥) → (k ≡ 5 → ⊥) → RunView limit held rose quiet name budget trace k text history
@@ -85,17 +76,17 @@ module _ (limit : ℕ) (held : Option Named) (rose quiet : Type 0) (name : List 
     refused_at : RunView limit held rose quiet name budget trace 1 text history → IsRefusedWith limit held old new name 1 ⊎ IsNoExec limit held old new name
     refused_at (inl none) = inl (none_refused 1 (λ e. omega (arith, e)) (λ e. omega (arith, e)) none)
     refused_at (inr (inl idle)) = inr (idle.1, subst (λ (t : List ℕ). Appends old new t) idle.2 printed)
-    refused_at (inr (inr ran)) = absurd (other_run 1 ran.0 ran.1 (λ e. omega (arith, e)) (λ e. omega (arith, e)) (λ e. omega (arith, e)) (λ e. omega (arith, e)))
+    refused_at (inr (inr ran)) = absurd (other_run 1 ran.0 ran.1 (λ e. omega (arith, e)) (λ e. omega (arith, e)) (λ e. omega (arith, e)))
 
     bound_at : RunView limit held rose quiet name budget trace 5 text history → IsRefusedWith limit held old new name 5
     bound_at (inl none) = none_refused 5 (λ e. omega (arith, e)) (λ e. omega (arith, e)) none
     bound_at (inr (inl idle)) = let none : ⊥ = omega (arith, idle.0) in absurd none
-    bound_at (inr (inr ran)) = absurd (other_run 5 ran.0 ran.1 (λ e. omega (arith, e)) (λ e. omega (arith, e)) (λ e. omega (arith, e)) (λ e. omega (arith, e)))
+    bound_at (inr (inr ran)) = absurd (other_run 5 ran.0 ran.1 (λ e. omega (arith, e)) (λ e. omega (arith, e)) (λ e. omega (arith, e)))
 
     long_at : RunView limit held rose quiet name budget trace 9 text history → IsTooLong limit held name
     long_at (inl none) = none_long none
     long_at (inr (inl idle)) = let none : ⊥ = omega (arith, idle.0) in absurd none
-    long_at (inr (inr ran)) = absurd (other_run 9 ran.0 ran.1 (λ e. omega (arith, e)) (λ e. omega (arith, e)) (λ e. omega (arith, e)) (λ e. omega (arith, e)))
+    long_at (inr (inr ran)) = absurd (other_run 9 ran.0 ran.1 (λ e. omega (arith, e)) (λ e. omega (arith, e)) (λ e. omega (arith, e)))
 
   check_accepted : CheckView limit held rose quiet name 0 text → AcceptsFile limit held name × Appends old new (codes "accepted\n")
   check_accepted (inl none) = absurd (none_other 0 (λ e. omega (arith, e)) (λ e. omega (arith, e)) (λ e. omega (arith, e)) (λ e. omega (arith, e)) none)
@@ -121,23 +112,19 @@ module _ (limit : ℕ) (held : Option Named) (rose quiet : Type 0) (name : List 
         finished = λ is.
             let w = view_at 0 is (λ e. omega (arith, e)) in
             let r = ran_at limit held rose quiet name text old new w.1 budget trace history 0 (λ e. omega (arith, e)) (λ e. omega (arith, e)) (λ e. omega (arith, e)) (λ e. omega (arith, e)) w.0 in
-            (text, zero_is limit held rose quiet name text old new w.1 budget trace history r.0 r.1 r.2, w.1);
+            (text, sound_run limit held name budget trace Finished text history (zero_is limit held rose quiet name text old new w.1 budget trace history r.0 r.1 r.2), w.1);
         refused = λ is. let w = view_at 1 is (λ e. omega (arith, e)) in refused_at limit held rose quiet name text old new w.1 budget trace history w.0;
         bound = λ is. let w = view_at 5 is (λ e. omega (arith, e)) in bound_at limit held rose quiet name text old new w.1 budget trace history w.0;
         out_of_budget = λ is.
             let w = view_at 6 is (λ e. omega (arith, e)) in
             let r = ran_at limit held rose quiet name text old new w.1 budget trace history 6 (λ e. omega (arith, e)) (λ e. omega (arith, e)) (λ e. omega (arith, e)) (λ e. omega (arith, e)) w.0 in
-            (text, six_is limit held rose quiet name text old new w.1 budget trace history r.0 r.1 r.2, w.1);
+            (text, sound_run limit held name budget trace OutOfBudget text history (six_is limit held rose quiet name text old new w.1 budget trace history r.0 r.1 r.2), w.1);
         index_limit = λ is.
             let w = view_at 7 is (λ e. omega (arith, e)) in
             let r = ran_at limit held rose quiet name text old new w.1 budget trace history 7 (λ e. omega (arith, e)) (λ e. omega (arith, e)) (λ e. omega (arith, e)) (λ e. omega (arith, e)) w.0 in
             let row = seven_is limit held rose quiet name text old new w.1 budget trace history r.0 r.1 r.2 in
-            (row.0, row.1, (text, row.2, w.1));
+            (row.0, row.1, (text, sound_run limit held name budget trace (IndexLimit row.0 row.1) text history row.2, w.1));
         too_long = λ is. let w = view_at 9 is (λ e. omega (arith, e)) in long_at limit held rose quiet name text old new w.1 budget trace history w.0;
-        blocked = λ is.
-            let w = view_at 10 is (λ e. omega (arith, e)) in
-            let r = ran_at limit held rose quiet name text old new w.1 budget trace history 10 (λ e. omega (arith, e)) (λ e. omega (arith, e)) (λ e. omega (arith, e)) (λ e. omega (arith, e)) w.0 in
-            (text, ten_is limit held rose quiet name text old new w.1 budget trace history r.0 r.1 r.2, w.1);
       }
 
   pub check_ends : CheckComes limit held rose quiet name answer text history → Ends old new before now text (code_of answer) status → CheckEnds limit held old new name status

@@ -18,10 +18,12 @@ use Rattle.rast_cli.specs.declared.answer.Answer.TheVariants.{Ran}
 use Rattle.rast_cli.specs.Lines.{code_of}
 use Rattle.rast_cli.specs.Held.{IsHeld, IsClear, AsksForProgram, AsksForCheck, AsksForFile}
 use Rattle.rast_cli.specs.Answered.{UsageComes, Comes, IsUsage, Ends}
+use Rattle.rast_cli.specs.Headline.{IsNoneOrSound}
 use Rattle.rast_cli.specs.Rows.{RunEnds, CheckEnds, ShowEnds, DecideEnds, IsRunStatus}
 use Rattle.rast_cli.proofs.Codes.{fault_codes, refusal_codes, outcome_codes, decision_codes, at_code}
 use Rattle.rast_cli.proofs.Views.{NoneView, RunView, CheckView, ShowView, run_view, check_view, show_view, decide_view, usage_view}
 use Rattle.rast_cli.proofs.AskLemmas.{run_or_check, run_or_show, run_or_decide, check_or_show, check_or_decide, show_or_decide, no_usage, same_run, same_check, same_show, same_formula}
+use Rattle.rast_cli.proofs.Ending.{run_sound}
 use Rattle.rast_cli.proofs.RunRows.{run_ends, check_ends}
 use Rattle.rast_cli.proofs.ShowRows.{show_ends}
 use Rattle.rast_cli.proofs.DecideRows.{decide_ends}
@@ -69,19 +71,19 @@ module _ (limit : ℕ) (words : List (List ℕ)) (held : Option Named) (rose qui
 module _ (limit : ℕ) (words : List (List ℕ)) (held : Option Named) (rose quiet : Type 0) (text : List ℕ) (history : List Event) where
   -- what the answer's code may be, where the words are taken
   abbrev IsCode : ℕ → Type 0
-  IsCode code = ((code ≡ 3) × rose) ⊎ ((code ≡ 0) ⊎ ((code ≡ 1) ⊎ ((code ≡ 5) ⊎ ((code ≡ 6) ⊎ ((code ≡ 7) ⊎ ((code ≡ 9) ⊎ (code ≡ 10)))))))
+  IsCode code = ((code ≡ 3) × rose) ⊎ ((code ≡ 0) ⊎ ((code ≡ 1) ⊎ ((code ≡ 5) ⊎ ((code ≡ 6) ⊎ ((code ≡ 7) ⊎ (code ≡ 9))))))
 
   refusal_code : (r : ℕ) → (r ≡ 1) ⊎ (r ≡ 5) → (k : ℕ) → k ≡ r → IsCode k
   refusal_code r c k e = ⊎_elim (λ is. inr (inr (inl (e ∙ is)))) (λ is. inr (inr (inr (inl (e ∙ is))))) c
 
   none_code : (name : List ℕ) (code : ℕ) → NoneView limit held rose quiet name code text → IsCode code
   none_code name code (inl fault) = inl fault
-  none_code name code (inr (inl long)) = inr (inr (inr (inr (inr (inr (inl long.0))))))
+  none_code name code (inr (inl long)) = inr (inr (inr (inr (inr (inr long.0)))))
   none_code name code (inr (inr refused)) = refusal_code (refusal_status refused.0) (refusal_codes refused.0) code refused.2
 
   run_code : (code : ℕ) (o : Outcome) → code ≡ code_of (Ran o) → IsCode code
   run_code code o e =
-      ⊎_elim (λ is. inr (inl (e ∙ is))) (λ a. ⊎_elim (λ is. inr (inr (inr (inr (inl (e ∙ is)))))) (λ b. ⊎_elim (λ is. inr (inr (inr (inr (inr (inl (e ∙ is))))))) (λ is. inr (inr (inr (inr (inr (inr (inr (e ∙ is)))))))) b) a) (outcome_codes o)
+      ⊎_elim (λ is. inr (inl (e ∙ is))) (λ a. ⊎_elim (λ is. inr (inr (inr (inr (inl (e ∙ is)))))) (λ is. inr (inr (inr (inr (inr (inl (e ∙ is))))))) a) (outcome_codes o)
 
   run_view_code : (name : List ℕ) (budget : ℕ) (trace : Bool) (code : ℕ) → RunView limit held rose quiet name budget trace code text history → IsCode code
   run_view_code name budget trace code (inl none) = none_code name code none
@@ -94,7 +96,7 @@ module _ (limit : ℕ) (words : List (List ℕ)) (held : Option Named) (rose qui
 
   show_view_code : (name : List ℕ) (code : ℕ) → ShowView limit held rose quiet name code text → IsCode code
   show_view_code name code (inl fault) = inl fault
-  show_view_code name code (inr (inl long)) = inr (inr (inr (inr (inr (inr (inl long.0))))))
+  show_view_code name code (inr (inl long)) = inr (inr (inr (inr (inr (inr long.0)))))
   show_view_code name code (inr (inr (inl wrong))) = refusal_code (fault_status wrong.0) (fault_codes wrong.0) code wrong.1
   show_view_code name code (inr (inr (inr shown))) = inr (inl shown.0)
 
@@ -104,7 +106,7 @@ module _ (limit : ℕ) (words : List (List ℕ)) (held : Option Named) (rose qui
   code_in answer (inr (inr (inl show))) = inl (show_view_code show.0 (code_of answer) (show_view limit held rose quiet show.0 answer text history show.2))
   code_in answer (inr (inr (inr (inl decide)))) =
       let d = decide_view limit decide.0 answer text history decide.3 in
-      inl (⊎_elim (λ is. inr (inl (d.1 ∙ is))) (λ a. ⊎_elim (λ is. inr (inr (inl (d.1 ∙ is)))) (λ b. ⊎_elim (λ is. inr (inr (inr (inl (d.1 ∙ is))))) (λ is. inr (inr (inr (inr (inr (inr (inl (d.1 ∙ is)))))))) b) a) (decision_codes d.0))
+      inl (⊎_elim (λ is. inr (inl (d.1 ∙ is))) (λ a. ⊎_elim (λ is. inr (inr (inl (d.1 ∙ is)))) (λ b. ⊎_elim (λ is. inr (inr (inr (inl (d.1 ∙ is))))) (λ is. inr (inr (inr (inr (inr (inr (d.1 ∙ is))))))) b) a) (decision_codes d.0))
   code_in answer (inr (inr (inr (inr usage)))) = inr (usage_view words answer text history usage.1)
 
   two_usage : (code : ℕ) → 2 ≡ code → IsCode code ⊎ ((code ≡ 2) × IsUsage words) → IsUsage words
@@ -115,8 +117,7 @@ module _ (limit : ℕ) (words : List (List ℕ)) (held : Option Named) (rose qui
   two_usage code e (inl (inr (inr (inr (inl c))))) = let none : ⊥ = omega (arith, e, c) in absurd none
   two_usage code e (inl (inr (inr (inr (inr (inl c)))))) = let none : ⊥ = omega (arith, e, c) in absurd none
   two_usage code e (inl (inr (inr (inr (inr (inr (inl c))))))) = let none : ⊥ = omega (arith, e, c) in absurd none
-  two_usage code e (inl (inr (inr (inr (inr (inr (inr (inl c)))))))) = let none : ⊥ = omega (arith, e, c) in absurd none
-  two_usage code e (inl (inr (inr (inr (inr (inr (inr (inr c)))))))) = let none : ⊥ = omega (arith, e, c) in absurd none
+  two_usage code e (inl (inr (inr (inr (inr (inr (inr c))))))) = let none : ⊥ = omega (arith, e, c) in absurd none
 
   three_fault : (code : ℕ) → 3 ≡ code → IsCode code ⊎ ((code ≡ 2) × IsUsage words) → rose
   three_fault code e (inr usage) = let u = usage.0 in let none : ⊥ = omega (arith, e, u) in absurd none
@@ -126,8 +127,17 @@ module _ (limit : ℕ) (words : List (List ℕ)) (held : Option Named) (rose qui
   three_fault code e (inl (inr (inr (inr (inl c))))) = let none : ⊥ = omega (arith, e, c) in absurd none
   three_fault code e (inl (inr (inr (inr (inr (inl c)))))) = let none : ⊥ = omega (arith, e, c) in absurd none
   three_fault code e (inl (inr (inr (inr (inr (inr (inl c))))))) = let none : ⊥ = omega (arith, e, c) in absurd none
-  three_fault code e (inl (inr (inr (inr (inr (inr (inr (inl c)))))))) = let none : ⊥ = omega (arith, e, c) in absurd none
-  three_fault code e (inl (inr (inr (inr (inr (inr (inr (inr c)))))))) = let none : ⊥ = omega (arith, e, c) in absurd none
+  three_fault code e (inl (inr (inr (inr (inr (inr (inr c))))))) = let none : ⊥ = omega (arith, e, c) in absurd none
+
+  -- the headline: there was no run, or a sound one
+  pub sound_of : (name : List ℕ) (budget : ℕ) (trace : Bool) → AsksRun words name budget trace → (answer : Answer) → Comes limit words held rose quiet answer text history → IsNoneOrSound limit held name budget trace history
+  sound_of name budget trace asks answer (inl run) =
+      let same = same_run words name budget trace run.0 run.1 run.2 asks run.3 in
+      run_sound limit held name budget trace rose quiet answer text history (rw (same.0, same.1, same.2) at run.4)
+  sound_of name budget trace asks answer (inr (inl check)) = absurd (run_or_check words name budget trace check.0 asks check.1)
+  sound_of name budget trace asks answer (inr (inr (inl show))) = absurd (run_or_show words name budget trace show.0 asks show.1)
+  sound_of name budget trace asks answer (inr (inr (inr (inl decide)))) = absurd (run_or_decide words name budget trace decide.0 asks decide.1)
+  sound_of name budget trace asks answer (inr (inr (inr (inr usage)))) = absurd (no_usage words (codes "run") asks.0 asks.1 (usage_in words text history answer usage.1))
 
   pub usage_of : (old new : Option (List ℕ)) (before now status : ℕ) (answer : Answer) → Comes limit words held rose quiet answer text history → Ends old new before now text (code_of answer) status
       → status ≡ 2 → IsUsage words
@@ -172,7 +182,7 @@ module _ (limit : ℕ) (words : List (List ℕ)) (held : Option Named) (rose qui
       absurd (executes (subst (λ (g : Program). g.main ≡ None) (clear_same p.bytes program p.says other.0 loads) other.2))
   run_ran name budget trace program p executes code (inr (inr ran)) =
       let e = ran.1 in
-      ⊎_elim (λ is. inl (e ∙ is)) (λ a. inr (⊎_elim (λ is. inl (e ∙ is)) (λ b. inr (⊎_elim (λ is. inl (e ∙ is)) (λ is. inr (e ∙ is)) b)) a)) (outcome_codes ran.0)
+      ⊎_elim (λ is. inl (e ∙ is)) (λ a. inr (⊎_elim (λ is. inl (e ∙ is)) (λ is. inr (e ∙ is)) a)) (outcome_codes ran.0)
 
   check_yes : (name : List ℕ) (program : Program) → IsClear limit held name program → (code : ℕ) → CheckView limit held rose quiet name code text → code ≡ 0
   check_yes name program p code (inl none) = absurd (none_clear name program p code none)

@@ -1,6 +1,6 @@
 -- Exit statuses, and the lines of answers.
 use Rattle.std.specs.Prelude.{ℕ, List, [], codes}
-use Rattle.rast_core.specs.declared.answer.Outcome.TheVariants.{Running, Finished, OutOfBudget, IndexLimit, Blocked}
+use Rattle.rast_core.specs.declared.answer.Outcome.TheVariants.{Running, Finished, OutOfBudget, IndexLimit}
 use Rattle.rast_load.specs.Lines.{fault_line, fault_status}
 use Rattle.rast_decide.specs.Lines.{status_of}
 use Rattle.rast_cli.specs.declared.answer.Answer.{Answer}
@@ -18,7 +18,6 @@ code_of (Ran OutOfBudget) = 6
 code_of (Ran Running) = 6
 code_of (Ran (IndexLimit pid value)) = 7
 code_of TooLong = 9
-code_of (Ran Blocked) = 10
 code_of (NoFile fault) = fault_status fault
 code_of (Refused status) = status
 code_of (Decided d) = status_of d

@@ -8,7 +8,7 @@ use Rattle.rast_index.specs.Truth.{Follows}
 use Rattle.rast_items.specs.declared.event.Event.{Event}
 use Rattle.rast_items.specs.declared.link.Pid.{Pid}
 use Rattle.rast_core.specs.declared.answer.Outcome.{Outcome}
-use Rattle.rast_core.specs.declared.answer.Outcome.TheVariants.{Finished, OutOfBudget, IndexLimit, Blocked}
+use Rattle.rast_core.specs.declared.answer.Outcome.TheVariants.{Finished, OutOfBudget, IndexLimit}
 use Rattle.rast_load.specs.declared.fault.TextFault.{TextFault}
 use Rattle.rast_load.specs.Lines.{fault_line, fault_status}
 use Rattle.rast_formula.specs.declared.numbered.Numbered.{Numbered}
@@ -19,7 +19,8 @@ use Rattle.rast_decide.specs.Lines.{status_of}
 use Rattle.rast_accept.specs.declared.refusal.Refusal.{Refusal}
 use Rattle.rast_accept.specs.Lines.{refusal_line, refusal_status}
 use Rattle.rast_cli.specs.Held.{IsTooLong, IsRefusedFile, HasNoExec, IsFaulty}
-use Rattle.rast_cli.specs.Answered.{RunsFile, AcceptsFile, ShowsFile}
+use Rattle.rast_cli.specs.Answered.{AcceptsFile, ShowsFile}
+use Rattle.rast_cli.specs.Headline.{IsSoundRun}
 
 -- the file says no accepted program for a reason of this status, and the sink gained the reason's line
 abbrev pub IsRefusedWith : ℕ → Option Named → Option (List ℕ) → Option (List ℕ) → List ℕ → ℕ → Type 0
@@ -29,9 +30,9 @@ IsRefusedWith limit held old new name status = (why : Refusal) × IsRefusedFile 
 abbrev pub IsNoExec : ℕ → Option Named → Option (List ℕ) → Option (List ℕ) → List ℕ → Type 0
 IsNoExec limit held old new name = HasNoExec limit held name × Appends old new (codes "refused: no exec\n")
 
--- a run of this outcome was made, and the sink gained its report
+-- a sound run of this outcome was made, and the sink gained its report
 abbrev pub IsReported : ℕ → Option Named → Option (List ℕ) → Option (List ℕ) → List ℕ → ℕ → Bool → Outcome → List Event → Type 0
-IsReported limit held old new name budget trace outcome history = (text : List ℕ) × RunsFile limit held name budget trace outcome text history × Appends old new text
+IsReported limit held old new name budget trace outcome history = (text : List ℕ) × IsSoundRun limit held name budget trace outcome text history × Appends old new text
 
 -- `rast run`
 pub record RunEnds (limit : ℕ) (held : Option Named) (old new : Option (List ℕ)) (name : List ℕ) (budget : ℕ) (trace : Bool) (history : List Event) (status : ℕ) : Type 0 where
@@ -41,7 +42,6 @@ pub record RunEnds (limit : ℕ) (held : Option Named) (old new : Option (List �
   pub out_of_budget : status ≡ 6 → IsReported limit held old new name budget trace OutOfBudget history
   pub index_limit : status ≡ 7 → (pid : Pid) × (value : ℕ) × IsReported limit held old new name budget trace (IndexLimit pid value) history
   pub too_long : status ≡ 9 → IsTooLong limit held name
-  pub blocked : status ≡ 10 → IsReported limit held old new name budget trace Blocked history
 
 -- `rast check`
 pub record CheckEnds (limit : ℕ) (held : Option Named) (old new : Option (List ℕ)) (name : List ℕ) (status : ℕ) : Type 0 where
@@ -87,4 +87,4 @@ pub record DecideEnds (limit : ℕ) (old new : Option (List ℕ)) (formula : Lis
 
 -- the status of a run that ended
 abbrev pub IsRunStatus : ℕ → Type 0
-IsRunStatus status = (status ≡ 0) ⊎ ((status ≡ 6) ⊎ ((status ≡ 7) ⊎ (status ≡ 10)))
+IsRunStatus status = (status ≡ 0) ⊎ ((status ≡ 6) ⊎ (status ≡ 7))

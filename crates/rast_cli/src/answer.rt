@@ -44,7 +44,6 @@ pub fn code(answer: Answer) -> u8
         Answer::Ran(Outcome::OutOfBudget | Outcome::Running) => 6,
         Answer::Ran(Outcome::IndexLimit { .. }) => 7,
         Answer::TooLong => 9,
-        Answer::Ran(Outcome::Blocked) => 10,
         Answer::NoFile(fault) => rast_load::status(fault),
         Answer::Refused { status } => status,
         Answer::Decided(decision) => rast_decide::status(decision),

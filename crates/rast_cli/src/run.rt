@@ -3,14 +3,12 @@ ghost use Rattle.std.specs.Prelude.{◌≡◌, IfOk};
 ghost use Rattle.rast_io.specs.Causes.{Rose};
 ghost use Rattle.rast_rules.specs.Plan.{IsForest};
 ghost use Rattle.rast_rules.specs.Rules.{IsAccepted};
-ghost use Rattle.rast_core.specs.Promises.{CanStart};
-ghost use Rattle.rast_cli.specs.Reported.{IsReport};
+ghost use Rattle.rast_cli.specs.Reported.{IsReport, IsRunnable};
 ghost use Rattle.rast_cli.specs.Answered.{RunComes};
 
 use crate::answer::Answer;
 use crate::found::{Found, find};
 use crate::said::{Said, say_line};
-use rast_accept::starts_law;
 use rast_core::Outcome;
 use rast_io::{Files, LIMIT};
 use rast_items::Event;
@@ -29,7 +27,7 @@ struct Made {
 
 // Runs a program and reports it.
 fn report(alloc: Global, program: &Program, budget: u32, trace: bool) -> Result<Made, AllocError>
-    requires starts { CanStart program.now }
+    requires runnable { IsRunnable program.now }
     requires accepted { IsAccepted program.now }
     requires forest { IsForest program.now }
     ensures { IfOk result (λ r. IsReport budget trace program.now r.outcome r.text.items r.history.items) }
@@ -62,7 +60,6 @@ pub(crate) fn say_run<F: Files>(
     if checked.program().main.is_none() {
         return say_line(alloc, Answer::NoExec);
     }
-    starts_law();
     let Made {
         outcome,
         text,

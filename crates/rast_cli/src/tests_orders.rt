@@ -1,7 +1,7 @@
 // Runs in pseudo-random orders. What is sent and taken on each session is counted here, by the events alone.
 ghost use Rattle.rast_rules.specs.Plan.{IsForest};
 ghost use Rattle.rast_rules.specs.Rules.{IsAccepted};
-ghost use Rattle.rast_core.specs.Promises.{CanStart};
+ghost use Rattle.rast_cli.specs.Reported.{IsRunnable};
 
 use crate::tests_costs::{COINS, TICKS};
 use crate::tests_replay::program_of;
@@ -147,7 +147,7 @@ struct Seen {
 }
 
 fn run_by_dice(alloc: Global, program: &Program, seed: u32) -> Result<Seen, AllocError>
-    requires starts { CanStart program.now }
+    requires runnable { IsRunnable program.now }
     requires accepted { IsAccepted program.now }
     requires forest { IsForest program.now }
 {

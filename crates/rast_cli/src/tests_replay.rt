@@ -2,13 +2,13 @@
 ghost use Rattle.std.specs.Prelude.{◌<◌, ◌^◌, IfOk, IfSome, length};
 ghost use Rattle.rast_rules.specs.Plan.{IsForest};
 ghost use Rattle.rast_rules.specs.Rules.{IsAccepted};
-ghost use Rattle.rast_core.specs.Promises.{CanStart};
+ghost use Rattle.rast_cli.specs.Reported.{IsRunnable};
 
 use crate::tests_costs::COINS;
 use crate::tests_sessions::{NUMBERS, SINK};
-use rast_accept::{load, starts_law};
+use rast_accept::load;
 use rast_check::Checked;
-use rast_core::{ReplayErr, replay};
+use rast_core::{Next, ReplayErr, replay};
 use rast_io::LIMIT;
 use rast_items::{Event, Pid};
 use rast_report::report_text;
@@ -23,7 +23,7 @@ pub(crate) fn program_of(
     text: &str,
     exec: &str,
 ) -> Result<Option<Checked>, AllocError>
-    ensures starts { IfOk result (λ o. IfSome o (λ c. CanStart c.program)) }
+    ensures runnable { IfOk result (λ o. IfSome o (λ c. IsRunnable c.program)) }
     ensures accepted { IfOk result (λ o. IfSome o (λ c. IsAccepted c.program)) }
     ensures forest { IfOk result (λ o. IfSome o (λ c. IsForest c.program)) }
 {
@@ -39,7 +39,6 @@ pub(crate) fn program_of(
     if checked.program().main.is_none() {
         return Ok(None);
     }
-    starts_law();
     Ok(Some(checked))
 }
 
@@ -66,7 +65,7 @@ fn spent(history: &[Event]) -> u128 {
 }
 
 fn replayed(alloc: Global, program: &Program, picks: &[Pid]) -> Result<Told, AllocError>
-    requires starts { CanStart program.now }
+    requires runnable { IsRunnable program.now }
     requires accepted { IsAccepted program.now }
     requires forest { IsForest program.now }
     requires few { length picks.now < 2 ^ 32 }
@@ -82,6 +81,40 @@ fn replayed(alloc: Global, program: &Program, picks: &[Pid]) -> Result<Told, All
         }
         Err(ReplayErr::At { place }) => Ok(Told::Refused(place)),
         Err(ReplayErr::Memory) => Err(AllocError),
+    }
+}
+
+// What a configuration says of a process, what its second one does next, and what is held.
+#[derive(Drop)]
+struct Looked {
+    path: Vec<u32>,
+    next: Next,
+    held: u128,
+}
+
+fn look_at(
+    alloc: Global,
+    program: &Program,
+    picks: &[Pid],
+    pid: u32,
+) -> Result<Option<Looked>, AllocError>
+    requires runnable { IsRunnable program.now }
+    requires accepted { IsAccepted program.now }
+    requires forest { IsForest program.now }
+    requires few { length picks.now < 2 ^ 32 }
+{
+    let plan = plan(alloc, program)?;
+    match replay(alloc, program, plan, picks) {
+        Ok((config, history)) => {
+            if pid >= config.made() {
+                return Ok(None);
+            }
+            let path = config.path(alloc, Pid(pid))?;
+            let next = config.enabled(program, Pid(1));
+            let held = config.held();
+            Ok(Some(Looked { path, next, held }))
+        }
+        Err(_) => Ok(None),
     }
 }
 
@@ -112,6 +145,20 @@ const HANDED_ON: &str = "1 p0 spawn p1 two @0
 4 p1 send p1:1 s @0
 5 p1 send p1:2 z @0
 6 p1 send p1:3 end @0
+finished
+steps 6
+work 0
+held 0
+time 0
+result s . s . z . end
+";
+
+const HANDED_ON_LAST: &str = "1 p0 spawn p1 two @0
+2 p1 send p1:0 s @0
+3 p1 send p1:1 s @0
+4 p1 send p1:2 z @0
+5 p1 send p1:3 end @0
+6 p0 move p1:0 p0:0 s @0
 finished
 steps 6
 work 0
@@ -163,6 +210,7 @@ fn picks_give_their_trace(rt: HostRuntime) -> Result<(), Fail> {
     let alloc = rt.alloc();
     for (text, exec, digits, want) in [
         (NUMBERS, "exec fw", "010111", HANDED_ON),
+        (NUMBERS, "exec fw", "011110", HANDED_ON_LAST),
         (SINK, "exec main", "00011222200", SENT_AHEAD),
         (SINK, "exec main", "01012202200", IN_TURNS),
     ] {
@@ -179,6 +227,8 @@ fn a_pick_without_an_event_is_named(rt: HostRuntime) -> Result<(), Fail> {
     let alloc = rt.alloc();
     for (text, exec, digits, want) in [
         (NUMBERS, "exec fw", "1", 0),
+        (NUMBERS, "exec fw", "10", 0),
+        (NUMBERS, "exec fw", "02", 1),
         (NUMBERS, "exec fw", "00", 1),
         (NUMBERS, "exec fw", "0100", 3),
         (NUMBERS, "exec fw", "0101111", 6),
@@ -206,6 +256,53 @@ fn no_potential_is_lost(rt: HostRuntime) -> Result<(), Fail> {
                 _ => assert!(rt; false, "the picks are a run"),
             }
         }
+    }
+    Ok(())
+}
+
+const BRANCHING: &str = "explicit
+decl one : . |- (x : 1)
+proc x <- one = close x
+decl two : . |- (x : 1)
+proc x <- two = c <- one ; wait c ; close x
+decl main : . |{3}- (u : 1)
+proc u <- main = work {1} ; a <- one ; b <- two ; wait a ; wait b ; work {2} ; close u
+";
+
+// Main has spent 1 of its 3 and made two children, of which the second has made one.
+#[test]
+fn a_configuration_tells_paths(rt: HostRuntime) -> Result<(), Fail> {
+    let alloc = rt.alloc();
+    let picks = [Pid(0), Pid(0), Pid(0), Pid(2)];
+    let paths: [&[u32]; 4] = [&[], &[1], &[2], &[2, 1]];
+    match program_of(alloc, BRANCHING, "exec main")? {
+        Some(checked) => {
+            for pid in 0..4 {
+                match look_at(alloc, checked.program(), &picks, pid as u32)? {
+                    Some(looked) => {
+                        assert_eq!(rt; looked.path.as_slice(), paths[pid]);
+                        assert_eq!(rt; looked.held, 2);
+                    }
+                    None => assert!(rt; false, "the process was made"),
+                }
+            }
+        }
+        None => assert!(rt; false, "there is a program"),
+    }
+    Ok(())
+}
+
+// The relay has handed on its message and is gone.
+#[test]
+fn a_process_that_is_gone_has_ended(rt: HostRuntime) -> Result<(), Fail> {
+    let alloc = rt.alloc();
+    let picks = [Pid(0), Pid(0), Pid(0), Pid(1), Pid(1)];
+    match program_of(alloc, SINK, "exec main")? {
+        Some(checked) => match look_at(alloc, checked.program(), &picks, 2)? {
+            Some(looked) => assert_eq!(rt; looked.next, Next::Ended),
+            None => assert!(rt; false, "the process was made"),
+        },
+        None => assert!(rt; false, "there is a program"),
     }
     Ok(())
 }

@@ -5,6 +5,7 @@ ghost use Rattle.rast_words.specs.Asks.{AsksRun, AsksCheck, AsksShow, AsksWhethe
 ghost use Rattle.rast_cli.specs.declared.answer.Answer.{Answer};
 ghost use Rattle.rast_cli.specs.Lines.{code_of};
 ghost use Rattle.rast_cli.specs.Answered.{Comes, Ends, IsUsage, IsWritten};
+ghost use Rattle.rast_cli.specs.Headline.{IsNoneOrSound};
 ghost use Rattle.rast_cli.specs.Rows.{RunEnds, CheckEnds, ShowEnds, DecideEnds, IsRunStatus};
 ghost use Rattle.rast_cli.specs.Held.{AsksForProgram, AsksForCheck, AsksForFile};
 
@@ -72,12 +73,16 @@ fn say<F: Files>(alloc: Global, words: &[String], files: &mut F) -> Result<Said,
 /// formula holds.
 ///
 /// `words` begins with the program's name. Statuses: 0 finished, accepted, shown or true, 1 refused or false, 2 usage, 3 a read
-/// fault, 4 a write fault, 5 a bound, 6 out of budget, 7 an index of 2^64 or more, 8 want of memory, 9 too long,
-/// 10 blocked.
+/// fault, 4 a write fault, 5 a bound, 6 out of budget, 7 an index of 2^64 or more, 8 want of memory, 9 too long.
 pub fn rast<F: Files, O: Sink>(alloc: Global, words: &[String], files: &mut F, out: &mut O) -> Exit
     ensures answered { (result.status ≡ 8) ⊎ ((answer : Answer) × (text : List ℕ)
         × Comes LIMIT (map string_bytes words.now) (F.held files.old) (Rose (F.faults files.old) (F.faults files.new)) (F.faults files.new ≡ F.faults files.old) answer text result.history.items
         × Ends (O.told out.old) (O.told out.new) (O.faults out.old) (O.faults out.new) text (code_of answer) result.status) }
+
+    // The headline: of the words that ask for a run, whatever the status, there was no run, or the file says an accepted program and the
+    // history is a sound run of it, which the text reports.
+    ensures headline { (name : List ℕ) (budget : ℕ) (trace : Bool) → AsksRun (map string_bytes words.now) name budget trace
+        → IsNoneOrSound LIMIT (F.held files.old) name budget trace result.history.items }
 
     // What the status says, for each command.
     ensures run { (name : List ℕ) (budget : ℕ) (trace : Bool) → AsksRun (map string_bytes words.now) name budget trace

@@ -1,5 +1,5 @@
 -- The process with which a run begins.
-use Rattle.std.proofs.Common.{◌≡◌, true, false, ℕ, ℤ, pos, negsuc, ◌+ℤ◌, List, [], ◌∷◌, Option, Some, None, refl, sym, ap, ◌∙◌, subst, arith}
+use Rattle.std.proofs.Common.{◌≡◌, true, false, ℕ, ℤ, pos, negsuc, List, [], ◌∷◌, Option, Some, None, refl, sym, ap, ◌∙◌, subst, arith}
 use Rattle.std.specs.Prelude.{slice_get, IsSome}
 use Rattle.std.proofs.lemmas.Int.{ints}
 use Rattle.rast_index.specs.Linear.{Linear, value, weighted}
@@ -8,7 +8,7 @@ use Rattle.rast_terms.specs.declared.program.Decl.{Decl}
 use Rattle.rast_core.specs.Words.{P, Proc}
 use Rattle.rast_items.specs.Items.{pid_at}
 use Rattle.rast_items.specs.Deeds.{process_at}
-use Rattle.rast_items.specs.Run.{State, Birth, start, start_decl, start_main, start_of}
+use Rattle.rast_items.specs.Run.{State, start, start_decl, start_main, start_of}
 use Rattle.rast_core.specs.Promises.{IsNatural, CanStart, BeginsWith}
 
 no_weight : (cs : List ℤ) → weighted cs [] ≡ pos 0

@@ -1,16 +1,15 @@
 -- Bounds of a configuration, and where its processes stand.
-use Rattle.std.proofs.Common.{◌≡◌, ℕ, zero, suc, Bool, true, false, cond, ◌+◌, ◌-◌, ◌*◌, ◌^◌, ◌<◌, ◌≤◌, List, [], ◌∷◌, ◌++◌, Option, Some, None, refl, sym, ap, ap₂, ◌∙◌, subst, arith, length, get_or, take, drop, map, inl, inr}
+use Rattle.std.proofs.Common.{◌≡◌, ℕ, zero, suc, Bool, true, false, cond, ◌+◌, ◌-◌, ◌^◌, ◌<◌, ◌≤◌, List, [], ◌∷◌, ◌++◌, Option, Some, None, refl, sym, ap, ap₂, ◌∙◌, subst, arith, length, take, drop, inl, inr}
 use Rattle.std.specs.Prelude.{slice_get, All, option_to_list, ◌⊎◌}
-use Rattle.std.proofs.lemmas.List.{length-append, length-map}
+use Rattle.std.proofs.lemmas.List.{length-map}
 use Rattle.std.proofs.lemmas.List.Elements.{All-cons, All-nil}
 use Rattle.std.proofs.lemmas.Bool.{eqb-true, eq-eqb, ne_eqb, cases_eq}
-use Rattle.std.proofs.lemmas.Option.{slice_get_within}
 use Rattle.rast_terms.specs.declared.program.Program.{Program}
 use Rattle.rast_core.specs.Words.{Link, Pid, Msg, Item, P, M, Proc, Event, Send, Take, Move, Spawn, Call, Work, Delay}
-use Rattle.rast_items.specs.Items.{same_pid, pid_at, link_at, total, held, potential_of}
+use Rattle.rast_items.specs.Items.{same_pid, pid_at, link_at, total, held}
 use Rattle.rast_items.specs.Deeds.{Code, deed}
-use Rattle.rast_items.specs.Step.{Cut, cut, cut_more, is_proc, Next, Ready, Waits, Halted, Ended, Stuck, does, at_item, at_cut, step}
-use Rattle.rast_items.specs.Run.{numbered_as, born, Birth, work_by}
+use Rattle.rast_items.specs.Step.{Cut, cut, cut_more, is_proc, Next, Ready, Waits, Halted, Ended, Stuck, does, at_cut, step}
+use Rattle.rast_items.specs.Run.{numbered_as, born, work_by}
 use Rattle.rast_items.specs.Slack.{IsOpen, HasSlack, IsItemSlack}
 use Rattle.rast_core.specs.Shown.{Shown, origin, code_of, next_of}
 use Rattle.rast_core.specs.Bounds.{IsBounded}
@@ -20,9 +19,9 @@ use Rattle.rast_core.specs.Edits.{IsCutAt, StandsAt, Decides, edited, IsApt, IsS
 use Rattle.rast_core.specs.declared.origin.Origin.{Origin}
 use Rattle.rast_core.specs.declared.decision.Edit.{Edit}
 use Rattle.rast_core.specs.declared.decision.Decision.{Decision}
-use Rattle.rast_core.specs.declared.decision.Decision.TheVariants.{Does as Do, Waits as Waiting, Halted as Halting, Stuck as Stays}
+use Rattle.rast_core.specs.declared.decision.Decision.TheVariants.{Does as Do}
 use Rattle.rast_core.proofs.Cuts.{cut_on, cut_at, passes_at}
-use Rattle.rast_core.proofs.StepBounds.{StepHolds, born_as, step_holds}
+use Rattle.rast_core.proofs.StepBounds.{born_as, step_holds}
 
 -- ---- processes have different numbers
 
@@ -197,11 +196,15 @@ edit_apt v i edit child k = apt_by (step k.code (length v.origins) k.pid v.items
 pub self_passes : (p : Proc) → is_proc p.pid (P p) ≡ true
 self_passes p = eq-eqb p.pid.0 p.pid.0 refl
 
+-- the step of the process at a place
+pub step_here : (g : Program) (v : Shown) (xs : List Item) (i k : ℕ) (p : Proc) → xs ≡ v.items → k ≡ length v.origins → IsCutAt (is_proc p.pid) xs i → slice_get xs i ≡ Some (P p) → next_of g v p.pid ≡ does (code_of g v) (take i xs) p (drop (i + 1) xs) (deed (code_of g v) k p)
+step_here g v xs i k p e n t h = ap₂ (λ (m : ℕ) (ys : List Item). step (code_of g v) m p.pid ys) (sym n) (sym e) ∙ step_at (code_of g v) k p.pid xs i p t h
+
 -- what is decided for the process at a place is decided for its step
 pub decided_here : (g : Program) (v : Shown) (xs : List Item) (i k : ℕ) (p : Proc) (r : Decision) → xs ≡ v.items → k ≡ length v.origins → IsCutAt (is_proc p.pid) xs i → slice_get xs i ≡ Some (P p) →
     Decides (does (code_of g v) (take i xs) p (drop (i + 1) xs) (deed (code_of g v) k p)) xs i r → Decides (next_of g v p.pid) v.items i r
 decided_here g v xs i k p r e n t h d =
-    let s : next_of g v p.pid ≡ does (code_of g v) (take i xs) p (drop (i + 1) xs) (deed (code_of g v) k p) = ap₂ (λ (m : ℕ) (ys : List Item). step (code_of g v) m p.pid ys) (sym n) (sym e) ∙ step_at (code_of g v) k p.pid xs i p t h in
+    let s : next_of g v p.pid ≡ does (code_of g v) (take i xs) p (drop (i + 1) xs) (deed (code_of g v) k p) = step_here g v xs i k p e n t h in
     subst (λ (ys : List Item). Decides (next_of g v p.pid) ys i r) e (subst (λ (x : Next). Decides x xs i r) (sym s) d)
 
 spent_by : (c : Code) (pid : Pid) (items : List Item) (i made spare : ℕ) (event : Event) (edit : Edit) (child : Option Origin) (n : Next) → step c made pid items ≡ n → Decides n items i (Do event edit child) → IsBounded items made spare →

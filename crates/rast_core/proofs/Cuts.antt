@@ -1,6 +1,6 @@
 -- Where a list is cut, by places.
-use Rattle.std.proofs.Common.{◌≡◌, ℕ, zero, suc, Bool, true, false, ◌+◌, ◌<◌, List, [], ◌∷◌, ◌++◌, Option, Some, None, arith, refl, sym, ap, ◌∙◌, subst, length, take, drop, slice_get, get_or, if◌then◌else◌}
-use Rattle.std.proofs.lemmas.Option.{slice_get_read, slice_get_within}
+use Rattle.std.proofs.Common.{◌≡◌, ℕ, zero, suc, Bool, true, false, ◌+◌, ◌<◌, List, [], ◌∷◌, ◌++◌, Option, Some, None, arith, refl, ap, ◌∙◌, subst, length, take, drop, slice_get, get_or, if◌then◌else◌}
+use Rattle.std.proofs.lemmas.Option.{slice_get_read}
 use Rattle.rast_core.specs.Words.{Item}
 use Rattle.rast_items.specs.Step.{Cut, cut, cut_more}
 use Rattle.rast_core.specs.Edits.{IsCutAt}

@@ -1,19 +1,18 @@
 -- What each action comes to in the list.
-use Rattle.std.proofs.Common.{◌≡◌, ℕ, zero, suc, Bool, true, false, ◌+◌, ◌<◌, ◌≤◌, ◌^◌, List, [], ◌∷◌, ◌++◌, Option, Some, None, refl, sym, ap, ap₂, ◌∙◌, subst, arith, length, take, drop, get_or, set, insert, map, eq-eqb, if◌then◌else◌}
-use Rattle.std.specs.Prelude.{slice_get, All, option_to_list}
+use Rattle.std.proofs.Common.{◌≡◌, ℕ, Bool, true, false, ◌+◌, ◌<◌, List, [], ◌∷◌, ◌++◌, Option, Some, None, refl, sym, ap, ap₂, ◌∙◌, subst, length, take, drop, eq-eqb, if◌then◌else◌}
+use Rattle.std.specs.Prelude.{slice_get, All}
 use Rattle.std.proofs.lemmas.Option.{slice_get_within, get_or_from_slice_get}
+use Rattle.rast_terms.specs.declared.program.Program.{Program}
 use Rattle.rast_rules.specs.declared.judgement.Plan.{Plan}
-use Rattle.rast_core.specs.Words.{Link, Pid, Side, Client, Provider, Msg, Item, P, M, Proc, Event, Send, Take, Move, Spawn, Call, Work, Delay}
-use Rattle.rast_items.specs.Items.{held}
+use Rattle.rast_core.specs.Words.{Pid, Msg, Item, P, Proc, Send, Spawn, Call, Work, Delay}
 use Rattle.rast_items.specs.Deeds.{Code, Deed, Puts, Takes, Moves, Makes, Turns, Works, Delays, Halts, Breaks}
-use Rattle.rast_items.specs.Step.{Cut, cut, cut_more, is_proc, does}
-use Rattle.rast_items.specs.Run.{Birth, born, ordinal_in}
-use Rattle.rast_items.specs.Slack.{IsItemSlack, HasSlack}
+use Rattle.rast_items.specs.Step.{Cut, cut, cut_more, is_proc, does, Stuck}
+use Rattle.rast_items.specs.Run.{ordinal_in}
 use Rattle.rast_items.specs.Actions.{action_of}
 use Rattle.rast_items.specs.declared.action.Action.{Action}
 use Rattle.rast_items.specs.declared.action.Action.TheVariants as action
-use Rattle.rast_core.specs.Shown.{origin}
-use Rattle.rast_core.specs.Edits.{Decides, IsPutEdit, edited}
+use Rattle.rast_core.specs.Shown.{run_code}
+use Rattle.rast_core.specs.Edits.{Decides, HasRule, IsPutEdit}
 use Rattle.rast_core.specs.declared.origin.Origin.{Origin}
 use Rattle.rast_core.specs.declared.decision.Edit.{Edit}
 use Rattle.rast_core.specs.declared.decision.Edit.TheVariants.{Replace, Two}
@@ -21,7 +20,6 @@ use Rattle.rast_core.specs.declared.decision.Decision.{Decision}
 use Rattle.rast_core.specs.declared.decision.Decision.TheVariants.{Does as Do}
 use Rattle.rast_core.proofs.Cuts.{cut_on}
 use Rattle.rast_core.proofs.Places.{set_at_place, two_at_place}
-use Rattle.rast_core.proofs.MessageSteps.{potential_within}
 
 -- the deed of an action
 abbrev deed_of : Action → Deed
@@ -33,7 +31,7 @@ deed_of (action.Turn rest d) = Turns rest d
 deed_of (action.Work q rest) = Works q rest
 deed_of (action.Delay t rest) = Delays t rest
 deed_of (action.Halt v) = Halts v
-deed_of action.Stuck = Breaks
+deed_of action.Breaks = Breaks
 
 deed_again : (d : Deed) → deed_of (action_of d) ≡ d
 deed_again (Puts m rest) = refl
@@ -50,6 +48,12 @@ deed_again Breaks = refl
 pub of_action : (c : Code) (items : List Item) (i : ℕ) (p : Proc) (r : Decision) (a b : Action) (d : Deed) → Decides (does c (take i items) p (drop (i + 1) items) (deed_of b)) items i r → a ≡ b → a ≡ action_of d →
     Decides (does c (take i items) p (drop (i + 1) items) d) items i r
 of_action c items i p r a b d f e h = subst (λ (x : Deed). Decides (does c (take i items) p (drop (i + 1) items) x) items i r) (ap deed_of (sym e ∙ h) ∙ deed_again d) f
+
+-- the process isn't stuck with the deed of its action
+pub rule_of : (g : Program) (items : List Item) (i : ℕ) (p : Proc) (a b : Action) → HasRule g items i p a → a ≡ b → (plan : Plan) × (does (run_code g plan) (take i items) p (drop (i + 1) items) (deed_of b) ≡ Stuck → ⊥)
+rule_of g items i p a b h e =
+    let d : h.deed ≡ deed_of b = sym (ap deed_of (sym e ∙ h.is) ∙ deed_again h.deed) in
+    (h.plan, λ s. h.unstuck (ap (does (run_code g h.plan) (take i items) p (drop (i + 1) items)) d ∙ s))
 
 -- ---- facts of the process at its place
 

@@ -1,6 +1,6 @@
 -- What each deed keeps of the bounds of a process.
-use Rattle.std.proofs.Common.{◌≡◌, ℕ, zero, suc, ℤ, pos, negsuc, Bool, true, false, ◌+◌, ◌-◌, ◌*◌, ◌^◌, ◌<◌, ◌≤◌, ◌==◌, List, [], ◌∷◌, ◌++◌, Option, Some, None, refl, sym, ap, ◌∙◌, subst, arith, length, take, get_or, max, map, if◌then◌else◌}
-use Rattle.std.specs.Prelude.{slice_get, All, nat_le, nat_lt, ◌&&◌}
+use Rattle.std.proofs.Common.{◌≡◌, ℕ, zero, suc, ℤ, pos, negsuc, Bool, true, false, ◌+◌, ◌-◌, ◌^◌, ◌<◌, ◌≤◌, ◌==◌, List, [], ◌∷◌, Option, Some, None, refl, ◌∙◌, subst, arith, length, get_or, if◌then◌else◌}
+use Rattle.std.specs.Prelude.{slice_get, All, nat_le, ◌&&◌}
 use Rattle.std.proofs.lemmas.Bool.{leb-true, leb-false, ltb-true}
 use Rattle.std.proofs.lemmas.List.{length_push}
 use Rattle.std.proofs.lemmas.List.Elements.{All-head, All-tail, All-cons, All-push, All-nil}
@@ -10,13 +10,13 @@ use Rattle.rast_terms.specs.declared.program.Program.{Program}
 use Rattle.rast_terms.specs.declared.program.Decl.{Decl}
 use Rattle.rast_terms.specs.declared.node.Node.{Node}
 use Rattle.rast_terms.specs.declared.node.Node.TheVariants as node
-use Rattle.rast_core.specs.Words.{Link, Pid, Side, Client, Provider, Body, Label, End, Chan, Nat, Assert, Pay, Msg, Item, P, M, Proc}
+use Rattle.rast_core.specs.Words.{Link, Body, Label, Chan, Nat, Assert, Pay, Item, P, M, Proc}
 use Rattle.rast_items.specs.Items.{after_link, link_at, pid_at, carried}
-use Rattle.rast_items.specs.Deeds.{Code, Deed, Puts, Takes, Moves, Makes, Turns, Works, Delays, Halts, Breaks, at_values, large_in, naturals, unless_large, with_values, with_arguments, argument_values, handed_over, first, link_of, with_link, with_channel, less_channel, at_node, out, msg_on, puts_at, puts, puts_chan, takes_at, takes, closes, forwards, process_at, parent_after, has_room, makes, turns, makes_at, turns_at, works, delays, act, act_at, deed}
+use Rattle.rast_items.specs.Deeds.{Code, Deed, Puts, Takes, Moves, Makes, Turns, Works, Delays, Halts, Breaks, at_values, large_in, naturals, unless_large, with_values, with_arguments, argument_values, handed_over, first, link_of, with_link, less_channel, at_node, out, msg_on, puts_at, puts, puts_chan, takes_at, closes, forwards, process_at, parent_after, has_room, makes, turns, makes_at, turns_at, works, delays, act, act_at, deed}
 use Rattle.rast_items.specs.Slack.{IsOpen, HasSlack, IsSlack, IsItemSlack}
 use Rattle.rast_items.specs.Actions.{action_of}
 use Rattle.rast_core.specs.Edits.{KeepsPid}
-use Rattle.rast_items.proofs.SlackLemmas.{found_all, dropped_all, link_open, pulled_all}
+use Rattle.rast_items.proofs.SlackLemmas.{found_all, dropped_all, link_open}
 
 abbrev Entry : Type 0
 Entry = ℕ × Link

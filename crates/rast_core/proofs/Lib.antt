@@ -14,4 +14,5 @@ pub mod LookLemmas
 pub mod TurnLemmas
 pub mod PickLemmas
 pub mod PathLemmas
-pub mod OrderLemmas
+pub mod SoundLemmas
+pub mod FinishLemmas

@@ -1,40 +1,33 @@
 -- What is seen of a configuration item by item.
-use Rattle.std.proofs.Common.{◌≡◌, ℕ, zero, suc, Bool, true, false, ◌+◌, ◌<◌, ◌≤◌, List, [], ◌∷◌, Option, Some, None, refl, sym, ap, ◌∙◌, arith, length, drop}
-use Rattle.std.specs.Prelude.{slice_get, ◌||◌, ◌&&◌}
-use Rattle.std.specs.List.{list_all}
+use Rattle.std.proofs.Common.{◌≡◌, ℕ, zero, suc, true, false, ◌+◌, ◌<◌, ◌≤◌, List, [], ◌∷◌, Option, Some, None, refl, sym, ap, ◌∙◌, arith, length, drop}
+use Rattle.std.specs.Prelude.{slice_get, ◌||◌}
 use Rattle.std.proofs.lemmas.List.{drop_more, drop_all}
 use Rattle.std.proofs.lemmas.Option.{slice_get_within, get_or_from_slice_get}
 use Rattle.rast_terms.specs.declared.program.Program.{Program}
-use Rattle.rast_core.specs.Words.{Pid, Item, P, M, Proc, Event}
+use Rattle.rast_core.specs.Words.{Pid, Item, P, M, Event}
 use Rattle.rast_items.specs.Step.{Next as Does, Ready as DReady, Waits as DWaits, Halted as DHalted, Ended as DEnded, Stuck as DStuck}
-use Rattle.rast_core.specs.Shown.{Shown, next_of, is_ready, some_ready, first_halted, halt_of, are_poised, code_of}
+use Rattle.rast_core.specs.Shown.{Shown, next_of, is_ready, some_ready, first_halted, halt_of}
 use Rattle.rast_core.specs.Promises.{Tells, IsTold}
 use Rattle.rast_core.specs.Looks.{IsNextAt, or_halted, ready_item, halted_item}
 use Rattle.rast_core.specs.Edits.{Decides}
 use Rattle.rast_core.specs.declared.answer.Next.{Next}
-use Rattle.rast_core.specs.declared.answer.Next.TheVariants.{Ready, Waits, Halted, Ended, Stuck}
+use Rattle.rast_core.specs.declared.answer.Next.TheVariants.{Ready, Waits, Halted}
 use Rattle.rast_core.specs.declared.answer.Outcome.{Outcome}
 use Rattle.rast_core.specs.declared.decision.Decision.{Decision}
-use Rattle.rast_core.specs.declared.decision.Decision.TheVariants.{Does as Do, Waits as Waiting, Halted as Halting, Stuck as Stays}
+use Rattle.rast_core.specs.declared.decision.Decision.TheVariants.{Does as Do, Waits as Waiting, Halted as Halting}
 
 pub tells_by : (n : Does) (items : List Item) (i : ℕ) (d : Decision) (r : Next) → Decides n items i d → IsTold d r → Tells n r
 tells_by (DReady e new) items i (Do event edit child) r d t = t ∙ ap Ready d.0
 tells_by (DReady e new) items i (Waiting l) r d t = absurd d
 tells_by (DReady e new) items i (Halting v) r d t = absurd d
-tells_by (DReady e new) items i Stays r d t = absurd d
 tells_by (DWaits l) items i (Do event edit child) r d t = absurd d
 tells_by (DWaits l) items i (Waiting k) r d t = t ∙ ap Waits d
 tells_by (DWaits l) items i (Halting v) r d t = absurd d
-tells_by (DWaits l) items i Stays r d t = absurd d
 tells_by (DHalted v) items i (Do event edit child) r d t = absurd d
 tells_by (DHalted v) items i (Waiting k) r d t = absurd d
 tells_by (DHalted v) items i (Halting w) r d t = t ∙ ap Halted d
-tells_by (DHalted v) items i Stays r d t = absurd d
 tells_by DEnded items i d r k t = absurd k
-tells_by DStuck items i (Do event edit child) r d t = absurd d
-tells_by DStuck items i (Waiting k) r d t = absurd d
-tells_by DStuck items i (Halting w) r d t = absurd d
-tells_by DStuck items i Stays r d t = t
+tells_by DStuck items i d r k t = absurd k
 
 -- ---- one process
 
@@ -43,14 +36,14 @@ ready_tells (DReady f items) e t = refl
 ready_tells (DWaits l) e t = cc
 ready_tells (DHalted v) e t = cc
 ready_tells DEnded e t = cc
-ready_tells DStuck e t = cc
+ready_tells DStuck e t = absurd t
 
 quiet_tells : (n : Does) (r : Next) → Tells n r → ((e : Event) → r ≡ Ready e → ⊥) → is_ready n ≡ false
 quiet_tells (DReady f items) r t h = absurd (h f t)
 quiet_tells (DWaits l) r t h = refl
 quiet_tells (DHalted v) r t h = refl
 quiet_tells DEnded r t h = refl
-quiet_tells DStuck r t h = refl
+quiet_tells DStuck r t h = absurd t
 
 halted_tells : (n : Does) (v : ℕ) (pid : Pid) (o : Outcome) → Tells n (Halted v) → halt_of pid n o ≡ or_halted (Some (pid, v)) o
 halted_tells (DReady f items) v pid o t = cc
@@ -60,14 +53,14 @@ halted_tells (DHalted w) v pid o t = ap (λ (n : ℕ). or_halted (Some (pid, n))
     same : (w v : ℕ) → Halted v ≡ Halted w → w ≡ v
     same w v h = cc
 halted_tells DEnded v pid o t = cc
-halted_tells DStuck v pid o t = cc
+halted_tells DStuck v pid o t = absurd t
 
 whole_tells : (n : Does) (r : Next) (pid : Pid) (o : Outcome) → Tells n r → ((v : ℕ) → r ≡ Halted v → ⊥) → halt_of pid n o ≡ o
 whole_tells (DReady f items) r pid o t h = refl
 whole_tells (DWaits l) r pid o t h = refl
 whole_tells (DHalted v) r pid o t h = absurd (h v t)
 whole_tells DEnded r pid o t h = refl
-whole_tells DStuck r pid o t h = refl
+whole_tells DStuck r pid o t h = absurd t
 
 -- ---- the item at a place
 
@@ -135,10 +128,3 @@ halted_place g v xs i o h =
 
 pub halted_end : (g : Program) (v : Shown) (xs : List Item) (i : ℕ) (o : Outcome) → length xs ≤ i → first_halted g v (drop i xs) o ≡ o
 halted_end g v xs i o h = ap (λ (ys : List Item). first_halted g v ys o) (drop_all i xs h)
-
--- ---- tests of all items
-
-pub all_place : (test : Item → Bool) (xs : List Item) (i : ℕ) (b : Bool) → i < length xs → ((x : Item) → slice_get xs i ≡ Some x → b ≡ test x) → list_all test (drop i xs) ≡ (b && list_all test (drop (i + 1) xs))
-all_place test xs i b h f =
-    let k = item_there xs i h in
-    ap (list_all test) (from_place xs i k.0 k.1) ∙ ap (λ c. c && list_all test (drop (i + 1) xs)) (sym (f k.0 k.1))

@@ -1,19 +1,20 @@
 -- What is decided where a message is needed.
-use Rattle.std.proofs.Common.{◌≡◌, ℕ, zero, suc, Bool, true, false, ◌+◌, ◌-◌, ◌<◌, ◌≤◌, List, [], ◌∷◌, ◌++◌, Option, Some, None, refl, sym, ap, ◌∙◌, subst, arith, length, take, drop, get_or, set, remove}
+use Rattle.std.proofs.Common.{◌≡◌, ℕ, zero, suc, Bool, true, false, ◌+◌, ◌<◌, ◌≤◌, List, [], ◌∷◌, ◌++◌, Option, Some, None, refl, sym, ap, ◌∙◌, subst, arith, length, take, drop, get_or}
 use Rattle.std.specs.Prelude.{slice_get}
-use Rattle.std.proofs.lemmas.Option.{get_or_from_slice_get, slice_get_within, slice_get_read}
+use Rattle.std.proofs.lemmas.Option.{get_or_from_slice_get, slice_get_within}
 use Rattle.std.proofs.lemmas.List.{length-take, length-drop, drop_more, drop_all}
 use Rattle.rast_terms.specs.declared.program.Program.{Program}
 use Rattle.rast_rules.specs.declared.judgement.Plan.{Plan}
 use Rattle.rast_core.specs.Words.{Link, Pid, Side, Client, Provider, Msg, Item, P, M, Proc, Event, Take, Move}
-use Rattle.rast_items.specs.Items.{total, held, potential_of}
-use Rattle.rast_items.specs.Deeds.{Code, after_take, taken_at}
-use Rattle.rast_items.specs.Step.{Cut, cut, is_msg, Next as Does, Ready, Waits, Stuck, take_it, take_from, take_client, take_provider, move_it, move_provider, move_client, moved}
+use Rattle.rast_items.specs.Items.{held, potential_of}
+use Rattle.rast_items.specs.Deeds.{taken_at}
+use Rattle.rast_items.specs.Step.{Cut, cut, is_msg, Ready, Stuck, take_it, take_client, take_provider, move_provider, move_client, moved}
 use Rattle.rast_core.specs.Shown.{run_code}
-use Rattle.rast_core.specs.Edits.{IsCutAt, Decides, HandsOn, edited}
+use Rattle.rast_core.specs.Edits.{IsCutAt, Decides, HandsOn}
 use Rattle.rast_core.specs.declared.decision.Edit.TheVariants.{Merge}
 use Rattle.rast_core.specs.declared.decision.Decision.{Decision}
-use Rattle.rast_core.specs.declared.decision.Decision.TheVariants.{Does as Do, Waits as Waiting, Stuck as Stays}
+use Rattle.rast_core.specs.declared.decision.Decision.TheVariants.{Does as Do}
+use Rattle.rast_core.proofs.Cuts.{cut_is}
 use Rattle.rast_core.proofs.Places.{later_gone, here_gone, earlier_gone}
 
 -- the item at the place of a cut
@@ -30,6 +31,10 @@ met test xs j x k h =
 -- the item that is read there
 pub met_read : (test : Item → Bool) (xs ys : List Item) (j : ℕ) (y x : Item) → xs ≡ ys → IsCutAt test xs j → y ≡ get_or xs j y → y ≡ x → Met test ys j x
 met_read test xs ys j y x v k h e = subst (λ (zs : List Item). Met test zs j x) v (subst (λ (z : Item). Met test xs j z) e (met test xs j y k h))
+
+-- a message is met there, and no process
+pub no_process : (l : Link) (s : Side) (xs : List Item) (j : ℕ) (q : Proc) → Met (is_msg l s) xs j (P q) → ⊥
+no_process l s xs j q k = let e : false ≡ true = (cut_is (is_msg l s) xs _ k.is).passes in cc
 
 pub potential_within : (xs : List Item) (i : ℕ) (x : Item) → slice_get xs i ≡ Some x → potential_of x ≤ held xs
 potential_within [] zero x h = cc
@@ -59,15 +64,11 @@ Wanted g p m = taken_at (slice_get g.nodes p.node) p m
 
 -- ---- a take of a message below
 
-pub below_stuck : (g : Program) (plan : Plan) (items : List Item) (i j : ℕ) (p q : Proc) (l : Link) → Met (is_msg l Client) (drop (i + 1) items) j (P q) →
-    Decides (take_client (run_code g plan) (take i items) p l (cut (is_msg l Client) (drop (i + 1) items))) items i Stays
-below_stuck g plan items i j p q l k = subst (λ (o : Option Cut). Decides (take_client (run_code g plan) (take i items) p l o) items i Stays) (sym k.is) tt
-
 pub below_unfit : (g : Program) (plan : Plan) (items : List Item) (i j : ℕ) (p : Proc) (m : Msg) (l : Link) → Met (is_msg l Client) (drop (i + 1) items) j (M m) → Wanted g p m ≡ None →
-    Decides (take_client (run_code g plan) (take i items) p l (cut (is_msg l Client) (drop (i + 1) items))) items i Stays
+    take_client (run_code g plan) (take i items) p l (cut (is_msg l Client) (drop (i + 1) items)) ≡ Stuck
 below_unfit g plan items i j p m l k h =
     let f : Proc → List Item = λ q. take i items ++ (P q ∷ (take j (drop (i + 1) items) ++ drop (j + 1) (drop (i + 1) items))) in
-    subst (λ (o : Option Cut). Decides (take_client (run_code g plan) (take i items) p l o) items i Stays) (sym k.is) (subst (λ (o : Option Proc). Decides (take_it f m o) items i Stays) (sym h) tt)
+    ap (take_client (run_code g plan) (take i items) p l) k.is ∙ ap (take_it f m) h
 
 pub below_taken : (g : Program) (plan : Plan) (items : List Item) (i j : ℕ) (p q : Proc) (m : Msg) (l : Link) (e : Event) → i < length items → Met (is_msg l Client) (drop (i + 1) items) j (M m) → Wanted g p m ≡ Some q → e ≡ Take q.pid m.link m.body q.moment →
     Decides (take_client (run_code g plan) (take i items) p l (cut (is_msg l Client) (drop (i + 1) items))) items i (Do e (Merge i (P q) (i + 1 + j)) None)
@@ -79,15 +80,11 @@ below_taken g plan items i j p q m l e h k w v =
 
 -- ---- a take of a message above
 
-pub above_stuck : (g : Program) (plan : Plan) (items : List Item) (i j : ℕ) (p q : Proc) (l : Link) → Met (is_msg l Provider) (take i items) j (P q) →
-    Decides (take_provider (run_code g plan) p l (cut (is_msg l Provider) (take i items)) (drop (i + 1) items)) items i Stays
-above_stuck g plan items i j p q l k = subst (λ (o : Option Cut). Decides (take_provider (run_code g plan) p l o (drop (i + 1) items)) items i Stays) (sym k.is) tt
-
 pub above_unfit : (g : Program) (plan : Plan) (items : List Item) (i j : ℕ) (p : Proc) (m : Msg) (l : Link) → Met (is_msg l Provider) (take i items) j (M m) → Wanted g p m ≡ None →
-    Decides (take_provider (run_code g plan) p l (cut (is_msg l Provider) (take i items)) (drop (i + 1) items)) items i Stays
+    take_provider (run_code g plan) p l (cut (is_msg l Provider) (take i items)) (drop (i + 1) items) ≡ Stuck
 above_unfit g plan items i j p m l k h =
     let f : Proc → List Item = λ q. take j (take i items) ++ (P q ∷ (drop (j + 1) (take i items) ++ drop (i + 1) items)) in
-    subst (λ (o : Option Cut). Decides (take_provider (run_code g plan) p l o (drop (i + 1) items)) items i Stays) (sym k.is) (subst (λ (o : Option Proc). Decides (take_it f m o) items i Stays) (sym h) tt)
+    ap (λ (o : Option Cut). take_provider (run_code g plan) p l o (drop (i + 1) items)) k.is ∙ ap (take_it f m) h
 
 pub above_taken : (g : Program) (plan : Plan) (items : List Item) (i j : ℕ) (p q : Proc) (m : Msg) (l : Link) (e : Event) → i < length items → Met (is_msg l Provider) (take i items) j (M m) → Wanted g p m ≡ Some q → e ≡ Take q.pid m.link m.body q.moment →
     Decides (take_provider (run_code g plan) p l (cut (is_msg l Provider) (take i items)) (drop (i + 1) items)) items i (Do e (Merge j (P q) i) None)
@@ -101,7 +98,7 @@ above_taken g plan items i j p q m l e h k w v =
 
 handed_below : (items : List Item) (i j : ℕ) (p : Proc) (x : Item) (other wait : Link) (d : Decision) → i < length items → j < length (drop (i + 1) items) → HandsOn x (i + 1 + j) i p.own p.pid d →
     Decides (move_client (take i items) p other wait (Some (record { before = take j (drop (i + 1) items); item = x; after = drop (j + 1) (drop (i + 1) items) })) (drop (i + 1) items)) items i d
-handed_below items i j p (P q) other wait d h b s = subst (λ (y : Decision). Decides Stuck items i y) (sym s) tt
+handed_below items i j p (P q) other wait d h b s = absurd s
 handed_below items i j p (M m) other wait d h b s =
     let c : i + 1 + j < length items = omega (arith, b, length-drop (i + 1) items) in
     subst (λ (y : Decision). Decides (Ready (Move p.pid m.link p.own m.body m.moment) (take i items ++ (take j (drop (i + 1) items) ++ (M (moved m p.own) ∷ drop (j + 1) (drop (i + 1) items))))) items i y) (sym s)
@@ -114,7 +111,7 @@ below_moved items i j p x other wait d h k s =
 
 handed_above : (items : List Item) (i j : ℕ) (p : Proc) (x : Item) (other wait : Link) (d : Decision) → i < length items → j < i → HandsOn x j i other p.pid d →
     Decides (move_provider p other wait (Some (record { before = take j (take i items); item = x; after = drop (j + 1) (take i items) })) (drop (i + 1) items)) items i d
-handed_above items i j p (P q) other wait d h b s = subst (λ (y : Decision). Decides Stuck items i y) (sym s) tt
+handed_above items i j p (P q) other wait d h b s = absurd s
 handed_above items i j p (M m) other wait d h b s =
     subst (λ (y : Decision). Decides (Ready (Move p.pid m.link other m.body m.moment) (take j (take i items) ++ (M (moved m other) ∷ (drop (j + 1) (take i items) ++ drop (i + 1) items)))) items i y) (sym s)
     (refl, earlier_gone items i j (M (moved m other)) h b, (omega (arith, b, h), h), refl)

@@ -1,5 +1,5 @@
 -- The way from main to a process, by where each process came from.
-use Rattle.std.proofs.Common.{◌≡◌, ℕ, zero, suc, Bool, true, false, ◌+◌, ◌<◌, ◌≤◌, List, [], ◌∷◌, ◌++◌, Option, Some, None, refl, sym, ap, ◌∙◌, subst, arith, length, map, reverse, inl, inr, append_assoc}
+use Rattle.std.proofs.Common.{◌≡◌, ℕ, zero, suc, Bool, true, false, ◌<◌, ◌≤◌, List, [], ◌∷◌, ◌++◌, Option, Some, None, refl, sym, ap, ◌∙◌, subst, arith, length, map, reverse, inl, inr, append_assoc}
 use Rattle.std.specs.Prelude.{slice_get, option_to_list, ◌⊎◌}
 use Rattle.std.specs.Option.{option_map}
 use Rattle.std.proofs.lemmas.List.{length-map, length_push, reverse-append, append-nil, get_or_push}
@@ -9,12 +9,12 @@ use Rattle.std.proofs.Math.ListN.{get_or-append, get_or}
 use Rattle.rast_core.specs.Words.{Pid, Item, Event, Send, Take, Move, Spawn, Call, Work, Delay}
 use Rattle.rast_items.specs.Items.{total}
 use Rattle.rast_items.specs.Deeds.{Code}
-use Rattle.rast_items.specs.Step.{Cut, cut, cut_more, is_proc, Next, Ready, Waits, Halted, Ended, Stuck, step, at_cut}
-use Rattle.rast_items.specs.Run.{State, Birth, born, numbered_as, pid_of, path_from, path_more}
-use Rattle.rast_core.specs.Shown.{Shown, IsReplay, origin}
+use Rattle.rast_items.specs.Step.{cut, cut_more, is_proc, Next, Ready, Waits, Halted, Ended, Stuck, step, at_cut}
+use Rattle.rast_items.specs.Run.{Birth, born, numbered_as, pid_of, path_from, path_more}
+use Rattle.rast_core.specs.Shown.{Shown, origin}
 use Rattle.rast_core.specs.Bounds.{IsBounded}
 use Rattle.rast_core.specs.Edits.{Decides, IsStepEdit}
-use Rattle.rast_core.specs.Paths.{AreAfterParents, path_of, IsPath}
+use Rattle.rast_core.specs.Paths.{AreAfterParents, IsPath}
 use Rattle.rast_core.specs.declared.origin.Origin.{Origin}
 use Rattle.rast_core.specs.declared.decision.Edit.{Edit}
 use Rattle.rast_core.specs.declared.decision.Decision.TheVariants.{Does as Do}

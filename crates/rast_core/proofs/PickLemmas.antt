@@ -8,16 +8,17 @@ use Rattle.rast_rules.specs.declared.judgement.Plan.{Plan}
 use Rattle.rast_core.specs.Words.{Pid, Item, Event}
 use Rattle.rast_items.specs.Deeds.{Code}
 use Rattle.rast_items.specs.Items.{held}
-use Rattle.rast_items.specs.Step.{Next as Does, Ready as DReady, step}
+use Rattle.rast_items.specs.Step.{Next as Does, Ready as DReady}
 use Rattle.rast_items.specs.Run.{State, IsRun, IsRunFrom, more_run, run_on, replay, state_after, step_of, pid_of, work, work_by}
+use Rattle.rast_laws.specs.Sound.{IsReady}
 use Rattle.rast_core.specs.Shown.{Shown, IsReplay, run_code, code_of, next_of}
-use Rattle.rast_core.specs.Promises.{IsStart, Leaves, StepIs, Replayed, StopsAtPick, IsRefusedAt}
+use Rattle.rast_core.specs.Promises.{IsStart, IsGoing, Leaves, StepIs, Replayed, IsRefusedAt}
 use Rattle.rast_core.specs.declared.answer.Next.{Next}
 use Rattle.rast_core.specs.declared.answer.Next.TheVariants.{Ready}
 use Rattle.rast_core.specs.declared.answer.ReplayErr.TheVariants.{At}
 use Rattle.rast_core.proofs.StepPids.{step_pid}
-use Rattle.rast_core.proofs.OrderLemmas.{keeps_order}
 use Rattle.rast_core.proofs.RunLemmas.{went, replay_more, state_step}
+use Rattle.rast_core.proofs.SoundLemmas.{replay_going, plan_sound}
 use Rattle.rast_core.proofs.TurnLemmas.{work_more}
 
 -- the run of the first picks, with room for the rest
@@ -48,8 +49,11 @@ picks_go_on g plan picks old new es done pid e r h t q =
       potential = omega (arith, r.potential, work_more es e, q);
     }
 
-pub picks_end : (g : Program) (plan : Plan) (picks : List Pid) (v : Shown) (es : List Event) (done : ℕ) → IsPartReplay g plan picks v es done → length picks ≤ done → Replayed g plan picks v es
-picks_end g plan picks v es done r h = record { state = r.state; replayed = r.replayed; plan_is = r.plan_is; picks_are = r.picks_are ∙ take_all done picks h; ordered = keeps_order g plan v es r.state r.replayed r.plan_is; potential = r.potential }
+pub picks_end : (g : Program) (plan : Plan) (picks : List Pid) (v : Shown) (es : List Event) (done : ℕ) → IsReady (run_code g plan) → IsPartReplay g plan picks v es done → length picks ≤ done → Replayed g plan picks v es
+picks_end g plan picks v es done ready r h = record { state = r.state; replayed = r.replayed; plan_is = r.plan_is; picks_are = r.picks_are ∙ take_all done picks h; sound = plan_sound g plan v es r.state ready r.plan_is r.replayed; potential = r.potential }
+
+pub picks_going : (g : Program) (plan : Plan) (picks : List Pid) (v : Shown) (es : List Event) (done : ℕ) → IsReady (run_code g plan) → IsPartReplay g plan picks v es done → IsGoing g v
+picks_going g plan picks v es done ready r = replay_going g plan v es r.state ready r.plan_is r.replayed
 
 -- ---- a pick that is refused
 

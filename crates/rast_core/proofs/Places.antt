@@ -1,7 +1,6 @@
 -- Changes of a list at places, as lists with items before and after them.
-use Rattle.std.proofs.Common.{◌≡◌, ℕ, zero, suc, ◌+◌, ◌<◌, ◌≤◌, List, [], ◌∷◌, ◌++◌, Some, arith, refl, sym, ap, ap₂, ◌∙◌, length, take, drop, get_or, set, insert, remove, add-one}
+use Rattle.std.proofs.Common.{◌≡◌, ℕ, zero, suc, ◌+◌, ◌<◌, List, [], ◌∷◌, ◌++◌, arith, refl, sym, ap, ◌∙◌, length, take, drop, set, insert, remove}
 use Rattle.std.proofs.lemmas.List.{set_split}
-use Rattle.std.specs.Prelude.{slice_get}
 use Rattle.rast_core.specs.Words.{Item}
 
 -- one item for another

@@ -1,6 +1,6 @@
 -- Where a message stands that a process sends.
-use Rattle.std.proofs.Common.{◌≡◌, List, [], ◌∷◌, ◌++◌, Option, Some, None, refl, ap, ◌∙◌}
-use Rattle.rast_core.specs.Words.{Side, Client, Provider, Msg, Item, P, M, Proc}
+use Rattle.std.proofs.Common.{◌≡◌, [], ◌∷◌, Option, None, refl, ap, ◌∙◌}
+use Rattle.rast_core.specs.Words.{Side, Client, Provider, Msg, M, Proc}
 use Rattle.rast_items.specs.Step.{put_beside, rest_items}
 
 alone_beside : (s : Side) (m : Msg) → put_beside s m [] ≡ M m ∷ []

@@ -1,17 +1,15 @@
 -- Runs that go on by one step, of which a configuration is the replay.
-use Rattle.std.proofs.Common.{◌≡◌, ℕ, Bool, true, false, ◌+◌, ◌<◌, ◌≤◌, List, [], ◌∷◌, ◌++◌, Option, Some, None, refl, sym, ap, ap₂, ◌∙◌, subst, length, map}
+use Rattle.std.proofs.Common.{◌≡◌, ℕ, ◌+◌, List, [], ◌∷◌, ◌++◌, refl, sym, ap, ap₂, ◌∙◌, subst, length, map}
 use Rattle.std.proofs.lemmas.List.{map-append, length-map}
 use Rattle.rast_terms.specs.declared.program.Program.{Program}
-use Rattle.rast_rules.specs.declared.judgement.Plan.{Plan}
 use Rattle.rast_core.specs.Words.{Pid, Item, Event}
 use Rattle.rast_items.specs.Deeds.{Code}
 use Rattle.rast_items.specs.Step.{Next as Does, Ready as DReady, Waits as DWaits, Halted as DHalted, Ended as DEnded, Stuck as DStuck, step}
-use Rattle.rast_items.specs.Run.{State, Birth, born, state_after, step_of, pid_of, IsRunFrom, IsRun, start_of}
+use Rattle.rast_items.specs.Run.{State, born, state_after, step_of, pid_of, IsRunFrom, IsRun}
 use Rattle.rast_core.specs.Shown.{Shown, IsReplay, origin, run_code, code_of, next_of}
 use Rattle.rast_core.specs.Promises.{Leaves, StepIs}
 use Rattle.rast_core.specs.declared.origin.Origin.{Origin}
-use Rattle.rast_core.specs.declared.answer.Next.{Next}
-use Rattle.rast_core.specs.declared.answer.Next.TheVariants.{Ready, Waits, Halted, Ended, Stuck}
+use Rattle.rast_core.specs.declared.answer.Next.TheVariants.{Ready, Waits, Halted, Ended}
 use Rattle.rast_core.proofs.StepPids.{step_pid}
 
 pub run_from_more : (c : Code) (begin mid : State) (es : List Event) (e : Event) (items : List Item) → IsRunFrom c begin es mid → step_of c mid (pid_of e) ≡ DReady e items → IsRunFrom c begin (es ++ e ∷ []) (state_after mid e items)
@@ -38,7 +36,7 @@ went_by g old new pid e (DReady f items) h l =
 went_by g old new pid e (DWaits x) h l = absurd (let k : Ready e ≡ Waits x = l.0 in cc)
 went_by g old new pid e (DHalted v) h l = absurd (let k : Ready e ≡ Halted v = l.0 in cc)
 went_by g old new pid e DEnded h l = absurd (let k : Ready e ≡ Ended = l.0 in cc)
-went_by g old new pid e DStuck h l = absurd (let k : Ready e ≡ Stuck = l.0 in cc)
+went_by g old new pid e DStuck h l = absurd l
 
 pub went : (g : Program) (old new : Shown) (pid : Pid) (e : Event) → StepIs g old pid (Ready e) new → Went g old new pid e
 went g old new pid e h = went_by g old new pid e (next_of g old pid) refl h

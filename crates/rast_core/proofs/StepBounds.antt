@@ -1,16 +1,16 @@
 -- What a step keeps of the bounds of a list of items.
-use Rattle.std.proofs.Common.{◌≡◌, ℕ, zero, suc, Bool, true, false, cond, ◌+◌, ◌*◌, ◌^◌, ◌<◌, ◌≤◌, List, [], ◌∷◌, ◌++◌, Option, Some, None, refl, sym, ap, ◌∙◌, subst, arith, length, get_or, append_assoc}
-use Rattle.std.specs.Prelude.{slice_get, All}
+use Rattle.std.proofs.Common.{◌≡◌, ℕ, true, cond, ◌+◌, ◌^◌, ◌<◌, ◌≤◌, List, [], ◌∷◌, ◌++◌, Option, Some, None, refl, sym, ap, ◌∙◌, subst, arith, length, get_or, append_assoc}
+use Rattle.std.specs.Prelude.{All}
 use Rattle.std.proofs.lemmas.List.{get_or_append_left, get_or-append-add, length-append}
 use Rattle.std.proofs.lemmas.List.Elements.{All-head, All-tail, All-cons, All-append, All-nil}
 use Rattle.std.proofs.lemmas.Bool.{eqb-true}
 use Rattle.rast_core.specs.Words.{Link, Pid, Side, Client, Provider, Body, End, Msg, Item, P, M, Proc, Event, Send, Take, Move, Spawn, Call, Work, Delay}
 use Rattle.rast_items.specs.Items.{same_pid, pid_at, total, held, potential_of}
 use Rattle.rast_items.specs.Deeds.{Code, Deed, Puts, Takes, Moves, Makes, Turns, Works, Delays, Halts, Breaks, deed, after_take}
-use Rattle.rast_items.specs.Step.{Cut, cut, is_proc, is_msg, rest_items, put_beside, Next, Ready, Waits, Halted, Ended, Stuck, put, take_it, take_from, take_client, take_provider, take_side, move_it, move_provider, move_client, moved, moved_next, does, at_item, at_cut, step}
+use Rattle.rast_items.specs.Step.{Cut, cut, is_proc, is_msg, rest_items, put_beside, Ready, take_it, take_from, take_client, take_provider, take_side, move_it, move_provider, move_client, moved, moved_next, does, at_item, at_cut, step}
 use Rattle.rast_items.specs.Run.{pid_of, numbered_as, work_by}
 use Rattle.rast_items.specs.Slack.{IsOpen, IsSlack, IsItemSlack}
-use Rattle.rast_core.proofs.Cuts.{IsCut, cut_is}
+use Rattle.rast_core.proofs.Cuts.{cut_is}
 use Rattle.rast_core.proofs.DeedBounds.{weaker_open, weaker_item, Goes, MakesOne, DeedKeeps, deed_keeps}
 use Rattle.rast_core.proofs.TakeBounds.{Took, taken_keeps}
 

@@ -1,5 +1,5 @@
 -- The event of a step is one of the process that was asked for.
-use Rattle.std.proofs.Common.{◌≡◌, ℕ, zero, suc, Bool, true, false, List, [], ◌∷◌, ◌++◌, Option, Some, None, refl, sym, ap, ◌∙◌, subst, if◌then◌else◌}
+use Rattle.std.proofs.Common.{◌≡◌, ℕ, zero, suc, Bool, true, false, List, [], ◌∷◌, ◌++◌, Option, Some, None, refl, sym, ap, ◌∙◌, if◌then◌else◌}
 use Rattle.std.specs.Prelude.{slice_get, nat_lt, length}
 use Rattle.std.proofs.lemmas.Bool.{eqb-true}
 use Rattle.rast_index.specs.Keys.{find_key}
@@ -8,7 +8,7 @@ use Rattle.rast_terms.specs.declared.node.Node.TheVariants as node
 use Rattle.rast_terms.specs.Nodes.{Touch, touches}
 use Rattle.rast_core.specs.Words.{Link, Pid, Side, Client, Provider, Body, Label, End, Chan, Nat, Assert, Pay, Msg, Item, P, M, Proc, Event, Send, Take, Move, Spawn, Call, Work, Delay}
 use Rattle.rast_items.specs.Deeds.{Code, Deed, Puts, Takes, Moves, Makes, Turns, Works, Delays, Halts, Breaks, deed, with_channel, less_channel, at_node, at_branch, has_room, with_message, took, took_on, taken_at, after_take}
-use Rattle.rast_items.specs.Step.{Cut, cut, is_proc, is_msg, rest_items, put_beside, Next, Ready, Waits, Halted, Ended, Stuck, take_it, take_from, take_client, take_provider, take_side, move_it, move_provider, move_client, moved, does, at_item, at_cut, step}
+use Rattle.rast_items.specs.Step.{Cut, cut, is_proc, is_msg, rest_items, put_beside, Ready, take_it, take_from, take_client, take_provider, take_side, move_it, move_provider, move_client, moved, does, at_item, at_cut, step}
 use Rattle.rast_items.specs.Run.{pid_of}
 use Rattle.rast_core.proofs.Cuts.{cut_is}
 use Rattle.rast_core.proofs.StepBounds.{ready_event}

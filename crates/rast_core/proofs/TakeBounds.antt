@@ -1,17 +1,17 @@
 -- What a take keeps of the bounds of a process.
-use Rattle.std.proofs.Common.{◌≡◌, ℕ, zero, suc, Bool, true, false, ◌+◌, ◌*◌, ◌^◌, ◌<◌, ◌≤◌, List, [], ◌∷◌, ◌++◌, Option, Some, None, refl, sym, ap, ◌∙◌, subst, arith, length, max, if◌then◌else◌}
+use Rattle.std.proofs.Common.{◌≡◌, ℕ, zero, suc, Bool, true, false, ◌+◌, [], ◌∷◌, ◌++◌, Option, Some, None, refl, ◌∙◌, subst, arith, length, if◌then◌else◌}
 use Rattle.std.specs.Prelude.{slice_get, All, nat_lt}
 use Rattle.std.proofs.lemmas.Bool.{ltb-true}
 use Rattle.std.proofs.lemmas.List.{length_push}
 use Rattle.std.proofs.lemmas.List.Elements.{All-head, All-push}
-use Rattle.rast_index.specs.Keys.{find_key, set_key, drop_key}
+use Rattle.rast_index.specs.Keys.{find_key}
 use Rattle.rast_terms.specs.declared.node.Node.{Node}
 use Rattle.rast_terms.specs.declared.node.Node.TheVariants as node
 use Rattle.rast_terms.specs.Nodes.{Touch, touches}
-use Rattle.rast_core.specs.Words.{Link, Body, Label, End, Chan, Nat, Assert, Pay, Msg, P, M, Proc}
+use Rattle.rast_core.specs.Words.{Link, Body, Label, End, Chan, Nat, Assert, Pay, Msg, P, Proc}
 use Rattle.rast_items.specs.Items.{carried}
-use Rattle.rast_items.specs.Deeds.{Code, with_link, with_channel, less_channel, at_node, at_branch, has_room, with_message, took, took_on, taken_at, after_take}
-use Rattle.rast_items.specs.Slack.{IsOpen, HasSlack, IsSlack, IsItemSlack}
+use Rattle.rast_items.specs.Deeds.{Code, with_channel, less_channel, at_node, at_branch, has_room, with_message, took, took_on, taken_at, after_take}
+use Rattle.rast_items.specs.Slack.{IsOpen, IsSlack, IsItemSlack}
 use Rattle.rast_items.proofs.SlackLemmas.{dropped_all}
 use Rattle.rast_core.proofs.DeedBounds.{weaker_open, weaker_all, set_all, length-set_key, length-drop_key}
 

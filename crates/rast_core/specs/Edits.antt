@@ -1,17 +1,20 @@
 -- What a step does to the list of items, by places.
-use Rattle.std.specs.Prelude.{◌≡◌, ℕ, ◌+◌, ◌<◌, Bool, true, List, [], ◌∷◌, ◌++◌, Option, Some, None, slice_get, take, drop, length, map, insert, remove, slice_set, option_to_list}
+use Rattle.std.specs.Prelude.{◌≡◌, ℕ, ◌+◌, ◌<◌, Bool, true, List, ◌++◌, Option, Some, None, slice_get, take, drop, length, map, insert, remove, slice_set, option_to_list}
+use Rattle.rast_terms.specs.declared.program.Program.{Program}
+use Rattle.rast_rules.specs.declared.judgement.Plan.{Plan}
 use Rattle.rast_core.specs.Words.{Event, Item, P, M, Pid, Link, Msg, Proc, Move}
-use Rattle.rast_items.specs.Step.{Cut, cut, put_beside, rest_items, moved, step, Next as Does, Ready as DReady, Waits as DWaits, Halted as DHalted, Ended as DEnded, Stuck as DStuck}
+use Rattle.rast_items.specs.Step.{cut, put_beside, rest_items, moved, does, step, Next as Does, Ready as DReady, Waits as DWaits, Halted as DHalted, Stuck as DStuck}
 use Rattle.rast_items.specs.Run.{born}
 use Rattle.rast_items.specs.declared.action.Action.{Action}
 use Rattle.rast_items.specs.declared.action.Action.TheVariants.{Make}
-use Rattle.rast_items.specs.Deeds.{Code}
-use Rattle.rast_core.specs.Shown.{Shown, origin}
+use Rattle.rast_items.specs.Deeds.{Code, Deed}
+use Rattle.rast_items.specs.Actions.{action_of}
+use Rattle.rast_core.specs.Shown.{Shown, origin, run_code}
 use Rattle.rast_core.specs.declared.origin.Origin.{Origin}
 use Rattle.rast_core.specs.declared.decision.Edit.{Edit}
 use Rattle.rast_core.specs.declared.decision.Edit.TheVariants.{Replace, Two, Merge}
 use Rattle.rast_core.specs.declared.decision.Decision.{Decision}
-use Rattle.rast_core.specs.declared.decision.Decision.TheVariants.{Does as Do, Waits, Halted, Stuck}
+use Rattle.rast_core.specs.declared.decision.Decision.TheVariants.{Does as Do, Waits, Halted}
 
 -- the list is cut at place i
 pub record IsCutAt (test : Item → Bool) (items : List Item) (i : ℕ) : Type 0 where
@@ -42,7 +45,6 @@ abbrev pub Decides : Does → List Item → ℕ → Decision → Type 0
 Decides (DReady e new) items i (Do event edit child) = (event ≡ e) × (edited edit items i ≡ new) × IsApt edit items × (option_to_list child ≡ map origin (born e new))
 Decides (DWaits l) items i (Waits link) = link ≡ l
 Decides (DHalted v) items i (Halted value) = value ≡ v
-Decides DStuck items i Stuck = Unit {0}
 Decides n items i d = ⊥
 
 -- a process that makes another stays the same process
@@ -50,13 +52,20 @@ abbrev pub KeepsPid : Pid → Action → Type 0
 KeepsPid pid (Make child rest decl) = rest.pid ≡ pid
 KeepsPid pid action = Unit {0}
 
+-- the process at place i has a rule for an action: under some plan it is the action of a deed with which it isn't stuck
+pub record HasRule (g : Program) (items : List Item) (i : ℕ) (p : Proc) (action : Action) : Type 0 where
+  pub plan : Plan
+  pub deed : Deed
+  pub is : action ≡ action_of deed
+  pub unstuck : does (run_code g plan) (take i items) p (drop (i + 1) items) deed ≡ DStuck → ⊥
+
 -- the edit puts a message beside a process
 abbrev pub IsPutEdit : Msg → Option Proc → Edit → Type 0
 IsPutEdit m rest edit = (items : List Item) (i : ℕ) → i < length items → (edited edit items i ≡ take i items ++ (put_beside m.toward m (rest_items rest) ++ drop (i + 1) items)) × IsApt edit items
 
 -- a message at place j is handed on to a link by the process at place i
 abbrev pub HandsOn : Item → ℕ → ℕ → Link → Pid → Decision → Type 0
-HandsOn (P q) j i to pid d = d ≡ Stuck
+HandsOn (P q) j i to pid d = ⊥
 HandsOn (M m) j i to pid d = d ≡ Do (Move pid m.link to m.body m.moment) (Merge j (M (moved m to)) i) None
 
 -- the edit and the child are those of some step of a process of the configuration

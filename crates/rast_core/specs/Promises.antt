@@ -6,16 +6,18 @@ use Rattle.rast_core.specs.Words.{Pid, Item, P, Proc, Event}
 use Rattle.rast_items.specs.Items.{held}
 use Rattle.rast_items.specs.Deeds.{Code}
 use Rattle.rast_items.specs.Step.{Next as Does, Ready as DReady, Waits as DWaits, Halted as DHalted, Ended as DEnded, Stuck as DStuck}
-use Rattle.rast_items.specs.Run.{State, Birth, IsRun, IsOrdered, start_of, replay, step_of, pid_of, born, work, work_by}
-use Rattle.rast_order.specs.Apart.{StaysApart}
+use Rattle.rast_items.specs.Run.{State, start_of, replay, step_of, pid_of, born, work, work_by}
+use Rattle.rast_items.specs.Ends.{IsFinished}
+use Rattle.rast_laws.specs.Sound.{IsReady, IsSound}
 use Rattle.rast_core.specs.Shown.{Shown, IsReplay, origin, run_code, code_of, next_of, some_ready, outcome}
 use Rattle.rast_core.specs.declared.answer.Next.{Next}
-use Rattle.rast_core.specs.declared.answer.Next.TheVariants.{Ready, Waits, Halted, Ended, Stuck}
+use Rattle.rast_core.specs.declared.answer.Next.TheVariants.{Ready, Waits, Halted, Ended}
 use Rattle.rast_core.specs.declared.decision.Decision.{Decision}
-use Rattle.rast_core.specs.declared.decision.Decision.TheVariants.{Does as Do, Waits as Waiting, Halted as Halting, Stuck as Stays}
+use Rattle.rast_core.specs.declared.decision.Decision.TheVariants.{Does as Do, Waits as Waiting, Halted as Halting}
 use Rattle.rast_core.specs.declared.answer.ReplayErr.{ReplayErr}
 use Rattle.rast_core.specs.declared.answer.ReplayErr.TheVariants.{At, Memory}
-use Rattle.rast_core.specs.declared.answer.Outcome.TheVariants.{Running}
+use Rattle.rast_core.specs.declared.answer.Outcome.{Outcome}
+use Rattle.rast_core.specs.declared.answer.Outcome.TheVariants.{Running, Finished}
 
 -- a program that has a main with which a run begins
 abbrev pub CanStart : Program → Type 0
@@ -27,6 +29,19 @@ IsNatural z = (q : ℕ) × (z ≡ pos q)
 -- the process with which it begins
 abbrev pub BeginsWith : Program → Proc → Type 0
 BeginsWith g p = (state : State) × (start_of g ≡ Some state) × (state.items ≡ P p ∷ [])
+
+-- the configuration is the replay of a run of a program that may be run
+pub record IsGoing (g : Program) (v : Shown) : Type 0 where
+  pub events : List Event
+  pub state : State
+  pub replayed : IsReplay g v events state
+  pub ready : IsReady (code_of g v)
+
+-- the configuration is the replay of this run, and after it holds what holds after every run of a program that may be run
+pub record IsSoundReplay (g : Program) (v : Shown) (es : List Event) : Type 0 where
+  pub state : State
+  pub replayed : IsReplay g v es state
+  pub sound : IsSound (code_of g v) es state
 
 -- the configuration with which a run begins, which keeps the plan and has room for so many events
 pub record IsStart (g : Program) (plan : Plan) (room : ℕ) (v : Shown) : Type 0 where
@@ -40,7 +55,6 @@ abbrev pub IsTold : Decision → Next → Type 0
 IsTold (Do event edit child) r = r ≡ Ready event
 IsTold (Waiting l) r = r ≡ Waits l
 IsTold (Halting v) r = r ≡ Halted v
-IsTold Stays r = r ≡ Stuck
 
 -- what is answered of a process that does this next
 abbrev pub Tells : Does → Next → Type 0
@@ -48,7 +62,7 @@ Tells (DReady e items) r = r ≡ Ready e
 Tells (DWaits l) r = r ≡ Waits l
 Tells (DHalted v) r = r ≡ Halted v
 Tells DEnded r = r ≡ Ended
-Tells DStuck r = r ≡ Stuck
+Tells DStuck r = ⊥
 
 abbrev pub EnabledIs : Program → Shown → Pid → Next → Type 0
 EnabledIs g v pid r = Tells (next_of g v pid) r
@@ -59,19 +73,18 @@ Leaves (DReady e items) old r new = (r ≡ Ready e) × (new.items ≡ items) × 
 Leaves (DWaits l) old r new = (r ≡ Waits l) × (new ≡ old)
 Leaves (DHalted v) old r new = (r ≡ Halted v) × (new ≡ old)
 Leaves DEnded old r new = (r ≡ Ended) × (new ≡ old)
-Leaves DStuck old r new = (r ≡ Stuck) × (new ≡ old)
+Leaves DStuck old r new = ⊥
 
 abbrev pub StepIs : Program → Shown → Pid → Next → Shown → Type 0
 StepIs g old pid r new = Leaves (next_of g old pid) old r new
 
--- On each session the messages taken in this run are, in order and each once, the beginning of those sent: wherever no state
--- of the run has two messages on one link.
-abbrev pub KeepsOrder : Code → List Event → Type 0
-KeepsOrder c es = StaysApart c es → IsOrdered es
-
 -- said of every run of which the configuration was the replay before the step
-abbrev pub StepKeepsOrder : Program → Shown → Next → Shown → Type 0
-StepKeepsOrder g old r new = (es : List Event) (st : State) (e : Event) → IsReplay g old es st → r ≡ Ready e → KeepsOrder (code_of g new) (es ++ e ∷ [])
+abbrev pub StepIsSound : Program → Shown → Next → Shown → Type 0
+StepIsSound g old r new = (es : List Event) (st : State) (e : Event) → IsReplay g old es st → r ≡ Ready e → IsSoundReplay g new (es ++ e ∷ [])
+
+-- where the outcome is finished, no process has an event, none is halted, and each item waits for its client
+abbrev pub Finishes : Program → Shown → Outcome → Type 0
+Finishes g v o = (es : List Event) (st : State) → IsReplay g v es st → o ≡ Finished → IsFinished (code_of g v) st
 
 -- one more event of some process; or nothing changed, and no process has an event
 abbrev pub IsTurn : Program → Shown → Option Event → Shown → Type 0
@@ -85,8 +98,9 @@ pub record IsFullRun (g : Program) (plan : Plan) (budget : ℕ) (v : Shown) (es 
   pub plan_is : v.plan ≡ plan
   pub few : length es ≤ budget
   pub potential : work es + held v.items < 2 ^ 32
-  pub ordered : KeepsOrder (run_code g plan) es
+  pub sound : IsSound (run_code g plan) es state
   pub decided : outcome g v (length es) budget ≡ Running → ⊥
+  pub finished : outcome g v (length es) budget ≡ Finished → IsFinished (run_code g plan) state
 
 -- the run of a list of picks
 pub record Replayed (g : Program) (plan : Plan) (picks : List Pid) (v : Shown) (es : List Event) : Type 0 where
@@ -95,7 +109,7 @@ pub record Replayed (g : Program) (plan : Plan) (picks : List Pid) (v : Shown) (
   pub plan_is : v.plan ≡ plan
   pub picks_are : map pid_of es ≡ picks
   pub potential : work es + held v.items < 2 ^ 32
-  pub ordered : KeepsOrder (run_code g plan) es
+  pub sound : IsSound (run_code g plan) es state
 
 -- the picks before number k are a run, and the process of pick k has no event after it
 pub record StopsAtPick (c : Code) (picks : List Pid) (k : ℕ) : Type 0 where

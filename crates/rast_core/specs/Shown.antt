@@ -1,16 +1,14 @@
 -- A configuration as contracts see it, the runs of which it is the replay, and how a run of it came to its end.
-use Rattle.std.specs.Prelude.{◌≡◌, ℕ, Bool, true, false, ◌&&◌, ◌||◌, ◌==◌, List, [], ◌∷◌, map, length, if◌then◌else◌}
-use Rattle.std.specs.List.{list_all}
+use Rattle.std.specs.Prelude.{◌≡◌, ℕ, Bool, true, false, ◌||◌, ◌==◌, List, [], ◌∷◌, map, length, if◌then◌else◌}
 use Rattle.rast_terms.specs.declared.program.Program.{Program}
 use Rattle.rast_rules.specs.declared.judgement.Plan.{Plan}
 use Rattle.rast_core.specs.Words.{Pid, Item, P, M, Event}
 use Rattle.rast_items.specs.Deeds.{Code}
-use Rattle.rast_items.specs.Step.{Next as Does, Ready, Waits, Halted, Ended, Stuck, step}
+use Rattle.rast_items.specs.Step.{Next as Does, Ready, Halted, step}
 use Rattle.rast_items.specs.Run.{State, Birth, IsRun}
-use Rattle.rast_items.specs.Ends.{is_poised}
 use Rattle.rast_core.specs.declared.origin.Origin.{Origin}
 use Rattle.rast_core.specs.declared.answer.Outcome.{Outcome}
-use Rattle.rast_core.specs.declared.answer.Outcome.TheVariants.{Running, Finished, OutOfBudget, IndexLimit, Blocked}
+use Rattle.rast_core.specs.declared.answer.Outcome.TheVariants.{Running, Finished, OutOfBudget, IndexLimit}
 
 -- its items, where each process came from, the plan that it keeps, and for how many events it has room
 pub record Shown : Type 0 where
@@ -60,14 +58,7 @@ first_halted g v [] o = o
 first_halted g v (P p ∷ is) o = halt_of p.pid (next_of g v p.pid) (first_halted g v is o)
 first_halted g v (M m ∷ is) o = first_halted g v is o
 
-abbrev pub are_poised : Program → Shown → Bool
-are_poised g v = list_all (is_poised (code_of g v) (length v.origins)) v.items
-
--- where no process has an event and none is halted
-abbrev pub rest_outcome : Program → Shown → Outcome
-rest_outcome g v = if are_poised g v then Finished else Blocked
-
--- the outcome of a configuration after so many events
+-- the outcome of a configuration after so many events: where no process has an event and none is halted it is finished
 abbrev pub outcome : Program → Shown → ℕ → ℕ → Outcome
 outcome g v events budget =
-    if some_ready g v v.items then (if events == budget then OutOfBudget else Running) else first_halted g v v.items (rest_outcome g v)
+    if some_ready g v v.items then (if events == budget then OutOfBudget else Running) else first_halted g v v.items Finished

@@ -13,8 +13,6 @@ pub enum Next {
     Halted(u128),
     /// There is no such process.
     Ended,
-    /// No rule says what it does, or the message that it needs isn't one that it takes.
-    Stuck,
 }
 
 /// How far a run has come.
@@ -22,14 +20,12 @@ pub enum Next {
 pub enum Outcome {
     /// Some process has an event, and the budget isn't used.
     Running,
-    /// No process has an event, none is halted, and each item waits for a client.
+    /// No process has an event and none is halted; each item waits for a client then.
     Finished,
     /// The budget is used, and some process has an event.
     OutOfBudget,
     /// No process has an event, and this is the first in the list that is halted, at this value.
     IndexLimit { pid: Pid, value: u128 },
-    /// No process has an event, none is halted, and some item doesn't wait for a client.
-    Blocked,
 }
 
 /// Why a list of picks isn't replayed.

@@ -1,17 +1,15 @@
 // A configuration as a plain list.
-ghost use Rattle.std.specs.Prelude.{◌≡◌, ◌≤◌, ◌<◌, ◌+◌, ◌^◌, ◌++◌, IfOk, MatchOption, None, Some, slice_get, length, option_to_list};
+ghost use Rattle.std.specs.Prelude.{◌≡◌, ◌≤◌, ◌<◌, ◌+◌, ◌^◌, ◌++◌, IfOk, MatchOption, None, Some, [], slice_get, length, option_to_list};
 ghost use Rattle.rast_items.specs.Step.{Ended, cut, is_proc};
-ghost use Rattle.rast_items.specs.Deeds.{deed};
-ghost use Rattle.rast_items.specs.Ends.{is_poised, waits_for_client};
-ghost use Rattle.rast_items.specs.Slack.{HasSlack};
 ghost use Rattle.rast_items.specs.Items.{held, potential_of};
 ghost use Rattle.rast_items.specs.Run.{work_by};
-ghost use Rattle.rast_core.specs.Words.{Item, Event};
-ghost use Rattle.rast_core.specs.Shown.{next_of, code_of, run_code};
+ghost use Rattle.rast_laws.specs.Sound.{IsReady};
+ghost use Rattle.rast_core.specs.Words.{Event};
+ghost use Rattle.rast_core.specs.Shown.{next_of, run_code};
 ghost use Rattle.rast_core.specs.Looks.{IsNextAt};
 ghost use Rattle.rast_core.specs.Paths.{AreAfterParents};
 ghost use Rattle.rast_core.specs.Edits.{Decides, IsCutAt, IsStepEdit, edited};
-ghost use Rattle.rast_core.specs.Promises.{CanStart, IsStart, EnabledIs, StepIs, IsTold, StepKeepsOrder};
+ghost use Rattle.rast_core.specs.Promises.{CanStart, IsStart, IsSoundReplay, IsGoing, EnabledIs, StepIs, IsTold, StepIsSound};
 
 use crate::answer::Next;
 use crate::decide::decide;
@@ -20,7 +18,7 @@ use crate::edit::{apply, note};
 use crate::find::{find_near, find_process};
 use crate::main_process::begin;
 use crate::origin::Origin;
-use rast_items::{Action, Item, Pid, Proc, Side, next_action};
+use rast_items::{Item, Pid, Proc};
 use rast_rules::Plan;
 use rast_terms::Program;
 use std::alloc::{AllocError, Global};
@@ -56,6 +54,23 @@ impl Config {
     /// The beginning of a run: main's one process, with room for `room` events. It keeps the plan.
     /// No memory is also answered where `room` is close to 2^32.
     pub fn start(
+        alloc: Global,
+        program: &Program,
+        plan: Plan,
+        room: u32,
+    ) -> Result<Config, AllocError>
+        requires { CanStart program.now }
+        ensures start { IfOk result (λ c. IsStart program.now plan room c) }
+        // Of a program that may be run the beginning is sound.
+        ensures going { IfOk result (λ c. IsReady (run_code program.now plan) → IsSoundReplay program.now c []) }
+        ensures potential { IfOk result (λ c. held c.items < 2 ^ 32) }
+    {
+        let config = Config::with_main(alloc, program, plan, room)?;
+        Ok(config)
+    }
+
+    // The configuration of main's one process.
+    fn with_main(
         alloc: Global,
         program: &Program,
         plan: Plan,
@@ -127,6 +142,7 @@ impl Config {
 
     /// What a process does next. It takes no memory.
     pub fn enabled(&self, program: &Program, pid: Pid) -> Next
+        requires { IsGoing program.now self.now }
         ensures { EnabledIs program.now self.now pid result }
     {
         match self.decided(program, pid) {
@@ -137,19 +153,22 @@ impl Config {
 
     /// Does the next event of a process, if it has one; else nothing changes. It takes no memory.
     pub fn step(&mut self, program: &Program, pid: Pid) -> Next
-        requires { 1 ≤ self.old.spare }
+        requires going { IsGoing program.now self.old }
+        requires spare { 1 ≤ self.old.spare }
         ensures step { StepIs program.now self.old pid result self.new }
         // An event takes potential from the items, and gives them none.
         ensures potential { (e : Event) → result ≡ Next.Ready e → work_by e + held self.new.items ≤ held self.old.items }
-        // On each session messages are taken in the order in which they are sent.
-        ensures ordered { StepKeepsOrder program.now self.old result self.new }
+        // The run with the event is sound.
+        ensures sound { StepIsSound program.now self.old result self.new }
+        ensures going { IsGoing program.now self.new }
     {
         self.do_next(program, pid)
     }
 
     // Does the next event of a process.
     fn do_next(&mut self, program: &Program, pid: Pid) -> Next
-        requires { 1 ≤ self.old.spare }
+        requires going { IsGoing program.now self.old }
+        requires spare { 1 ≤ self.old.spare }
         ensures step { StepIs program.now self.old pid result self.new }
         ensures potential { (e : Event) → result ≡ Next.Ready e → work_by e + held self.new.items ≤ held self.old.items }
     {
@@ -163,12 +182,12 @@ impl Config {
             }
             Decision::Waits(link) => Next::Waits(link),
             Decision::Halted(value) => Next::Halted(value),
-            Decision::Stuck => Next::Stuck,
         }
     }
 
     /// What is to be done for a process, with its place; none where there is no such process.
     pub(crate) fn decided(&self, program: &Program, pid: Pid) -> Option<(usize, Decision)>
+        requires { IsGoing program.now self.now }
         ensures { MatchOption result (next_of program.now self.now pid ≡ Ended) (λ r. (r.0 < length self.now.items) × Decides (next_of program.now self.now pid) self.now.items r.0 r.1) }
     {
         let place = self.place_of(pid)?;
@@ -180,7 +199,8 @@ impl Config {
 
     /// What the process at a place does next; nothing of a message.
     pub(crate) fn next_at(&self, program: &Program, place: usize) -> Option<(Pid, Next)>
-        requires { place < length self.now.items }
+        requires going { IsGoing program.now self.now }
+        requires place { place < length self.now.items }
         ensures { IsNextAt program.now self.now (slice_get self.now.items place) result }
     {
         match self.item_at(place) {
@@ -189,20 +209,10 @@ impl Config {
         }
     }
 
-    /// Whether the item at a place waits for a client.
-    pub(crate) fn poised_at(&self, program: &Program, place: usize) -> bool
-        requires { place < length self.now.items }
-        ensures { (item : Item) → slice_get self.now.items place ≡ Some item → result ≡ is_poised (code_of program.now self.now) (length self.now.origins) item }
-    {
-        match self.item_at(place) {
-            Item::Proc(proc) => { waits_for_client(program, &self.plan, self.made(), proc) }
-            Item::Msg(msg) => msg.toward.is(Side::Client),
-        }
-    }
-
     /// What is to be done for the process at its place.
     fn decided_at(&self, program: &Program, place: usize, proc: &Proc) -> Decision
-        requires { slice_get self.now.items place ≡ Some (Item.Proc proc.now) }
+        requires going { IsGoing program.now self.now }
+        requires at { slice_get self.now.items place ≡ Some (Item.Proc proc.now) }
         ensures { Decides (next_of program.now self.now proc.now.pid) self.now.items place result }
     {
         decide(program, &self.plan, self.made(), &self.items, place, proc)
@@ -255,20 +265,6 @@ fn potential_of(item: &Item) -> u128
     }
 }
 
-/// Whether a process waits for its client.
-fn waits_for_client(program: &Program, plan: &Plan, made: u32, proc: &Proc) -> bool
-    requires { HasSlack 1 proc.now }
-    ensures { result ≡ waits_for_client proc.now (deed (run_code program.now plan.now) made proc.now) }
-{
-    let positive = plan.positive.as_slice();
-    let paid = plan.paid.as_slice();
-    match next_action(program, positive, paid, made, proc) {
-        Action::Take { link, side } => link.is(proc.own()) && side.is(Side::Provider),
-        Action::Move { wait, .. } => wait.is(proc.own()),
-        _ => false,
-    }
-}
-
 /// What a decision says to those who asked.
 pub(crate) fn told(decision: Decision) -> Next
     ensures { IsTold decision result }
@@ -277,7 +273,6 @@ pub(crate) fn told(decision: Decision) -> Next
         Decision::Does { event, .. } => Next::Ready(event),
         Decision::Waits(link) => Next::Waits(link),
         Decision::Halted(value) => Next::Halted(value),
-        Decision::Stuck => Next::Stuck,
     }
 }
 

@@ -3,12 +3,12 @@ ghost use Rattle.std.specs.Prelude.{◌≡◌, ◌+◌, ◌<◌, ◌^◌, All, t
 ghost use Rattle.rast_items.specs.Items.{held};
 ghost use Rattle.rast_items.specs.Process.{Process};
 ghost use Rattle.rast_items.specs.Deeds.{Deed, deed};
-ghost use Rattle.rast_items.specs.Step.{is_proc, does};
+ghost use Rattle.rast_items.specs.Step.{Stuck, is_proc, does};
 ghost use Rattle.rast_items.specs.Slack.{IsItemSlack};
 ghost use Rattle.rast_items.specs.Actions.{action_of};
 ghost use Rattle.rast_rules.specs.declared.judgement.Plan.{Plan};
 ghost use Rattle.rast_core.specs.Shown.{run_code};
-ghost use Rattle.rast_core.specs.Edits.{Decides, IsCutAt, KeepsPid, IsPutEdit};
+ghost use Rattle.rast_core.specs.Edits.{Decides, IsCutAt, KeepsPid, HasRule, IsPutEdit};
 
 use crate::decision::{Decision, Edit};
 use crate::messages::{forward, take_above, take_below};
@@ -30,6 +30,7 @@ pub(crate) fn decide(
     requires at { slice_get items.now place ≡ Some (Item.Proc proc.now) }
     requires slack { All (IsItemSlack 1) items.now }
     requires potential { held items.now < 2 ^ 32 }
+    requires going { does (run_code program.now plan.now) (take place items.now) proc.now (drop (place + 1) items.now) (deed (run_code program.now plan.now) made proc.now) ≡ Stuck → ⊥ }
     ensures { Decides (does (run_code program.now plan.now) (take place items.now) proc.now (drop (place + 1) items.now) (deed (run_code program.now plan.now) made proc.now)) items.now place result }
 {
     let positive = plan.positive.as_slice();
@@ -51,6 +52,7 @@ fn decide_action(
     requires slack { All (IsItemSlack 1) items.now }
     requires potential { held items.now < 2 ^ 32 }
     requires pid { KeepsPid proc.now.pid action }
+    requires rule { HasRule program.now items.now place proc.now action }
     ensures { (plan : Plan) (d : Deed) → action ≡ action_of d → Decides (does (run_code program.now plan) (take place items.now) proc.now (drop (place + 1) items.now) d) items.now place result }
 {
     let pid = proc.pid;
@@ -121,7 +123,7 @@ fn decide_action(
             child: None,
         },
         Action::Halt { value } => Decision::Halted(value),
-        Action::Stuck => Decision::Stuck,
+        Action::Breaks => unreachable!(),
     }
 }
 

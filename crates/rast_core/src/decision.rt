@@ -26,6 +26,4 @@ pub enum Decision {
     Waits(Link),
     /// It is halted at a value.
     Halted(u128),
-    /// It has no rule.
-    Stuck,
 }

@@ -2,7 +2,8 @@
 ghost use Rattle.std.specs.Prelude.{◌≡◌, ◌+◌, ◌<◌, ◌≤◌, ◌^◌, take, drop, length};
 ghost use Rattle.rast_items.specs.Items.{held};
 ghost use Rattle.rast_core.specs.Words.{Client, Provider};
-ghost use Rattle.rast_items.specs.Step.{is_msg, take_client, take_provider, move_client, move_provider, moved, cut};
+ghost use Rattle.rast_items.specs.Step.{Stuck, is_msg, take_client, take_provider, move_client, move_provider, moved, cut};
+ghost use Rattle.rast_items.specs.Process.{Process};
 ghost use Rattle.rast_items.specs.Slack.{HasSlack};
 ghost use Rattle.rast_rules.specs.declared.judgement.Plan.{Plan};
 ghost use Rattle.rast_core.specs.Shown.{run_code};
@@ -25,6 +26,7 @@ pub(crate) fn take_below(
     requires slack { HasSlack 1 proc.now }
     requires own { proc.now.potential < 2 ^ 32 }
     requires potential { held items.now < 2 ^ 32 }
+    requires fits { (plan : Plan) × (take_client (run_code program.now plan) (take place items.now) proc.now link (cut (is_msg link Client) (drop (place + 1) items.now)) ≡ Stuck → ⊥) }
     ensures { (plan : Plan) → Decides (take_client (run_code program.now plan) (take place items.now) proc.now link (cut (is_msg link Client) (drop (place + 1) items.now))) items.now place result }
 {
     let below = rest_of(items, place + 1);
@@ -33,9 +35,9 @@ pub(crate) fn take_below(
     };
     let at = place + 1 + offset;
     match &below[offset] {
-        Item::Proc(_) => Decision::Stuck,
+        Item::Proc(_) => unreachable!(),
         Item::Msg(msg) => match after_take(program, proc, msg) {
-            None => Decision::Stuck,
+            None => unreachable!(),
             Some(rest) => Decision::Does {
                 event: taken(&rest, msg),
                 edit: Edit::Merge {
@@ -61,6 +63,7 @@ pub(crate) fn take_above(
     requires slack { HasSlack 1 proc.now }
     requires own { proc.now.potential < 2 ^ 32 }
     requires potential { held items.now < 2 ^ 32 }
+    requires fits { (plan : Plan) × (take_provider (run_code program.now plan) proc.now link (cut (is_msg link Provider) (take place items.now)) (drop (place + 1) items.now) ≡ Stuck → ⊥) }
     ensures { (plan : Plan) → Decides (take_provider (run_code program.now plan) proc.now link (cut (is_msg link Provider) (take place items.now)) (drop (place + 1) items.now)) items.now place result }
 {
     let above = front_of(items, place);
@@ -68,9 +71,9 @@ pub(crate) fn take_above(
         return Decision::Waits(link);
     };
     match &above[at] {
-        Item::Proc(_) => Decision::Stuck,
+        Item::Proc(_) => unreachable!(),
         Item::Msg(msg) => match after_take(program, proc, msg) {
-            None => Decision::Stuck,
+            None => unreachable!(),
             Some(rest) => Decision::Does {
                 event: taken(&rest, msg),
                 edit: Edit::Merge {
@@ -132,10 +135,11 @@ fn forward_up(items: &[Item], place: usize, proc: &Proc, other: Link, wait: Link
 
 /// The message at a place goes on to a link, and the forward ends.
 fn hand_on(item: &Item, at: usize, place: usize, to: Link, pid: Pid) -> Decision
+    requires { (proc : Process) → item.now ≡ Item.Proc proc → ⊥ }
     ensures { HandsOn item.now at place to pid result }
 {
     match item {
-        Item::Proc(_) => Decision::Stuck,
+        Item::Proc(_) => unreachable!(),
         Item::Msg(msg) => Decision::Does {
             event: Event::Move {
                 pid,

@@ -1,6 +1,8 @@
 // Runs of lists of picks.
 ghost use Rattle.std.specs.Prelude.{◌≡◌, ◌<◌, ◌^◌, IfOk, IfErr, length};
-ghost use Rattle.rast_core.specs.Promises.{CanStart, Replayed, IsRefusedAt};
+ghost use Rattle.rast_laws.specs.Sound.{IsReady};
+ghost use Rattle.rast_core.specs.Shown.{run_code};
+ghost use Rattle.rast_core.specs.Promises.{Replayed, IsRefusedAt};
 
 use crate::answer::{Next, ReplayErr};
 use crate::config::Config;
@@ -23,7 +25,7 @@ pub fn replay(
     plan: Plan,
     picks: &[Pid],
 ) -> Result<(Config, Vec<Event>), ReplayErr>
-    requires start { CanStart program.now }
+    requires ready { IsReady (run_code program.now plan) }
     requires few { length picks.now < 2 ^ 32 }
     ensures run { IfOk result (λ r. Replayed program.now plan picks.now r.0 r.1.items) }
     ensures refused { IfErr result (λ e. IsRefusedAt program.now plan picks.now e) }

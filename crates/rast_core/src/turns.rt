@@ -1,6 +1,8 @@
 // Whole runs.
 ghost use Rattle.std.specs.Prelude.{◌≤◌, IfOk};
-ghost use Rattle.rast_core.specs.Promises.{CanStart, IsFullRun, IsTurn};
+ghost use Rattle.rast_laws.specs.Sound.{IsReady};
+ghost use Rattle.rast_core.specs.Shown.{run_code};
+ghost use Rattle.rast_core.specs.Promises.{IsFullRun, IsGoing, IsTurn};
 
 use crate::answer::Next;
 use crate::config::Config;
@@ -18,7 +20,7 @@ pub fn run(
     plan: Plan,
     budget: u32,
 ) -> Result<(Config, Vec<Event>), AllocError>
-    requires { CanStart program.now }
+    requires { IsReady (run_code program.now plan) }
     ensures { IfOk result (λ r. IsFullRun program.now plan budget r.0 r.1.items) }
 {
     let mut config = Config::start(alloc, program, plan, budget)?;
@@ -39,7 +41,8 @@ fn turn(
     config: &mut Config,
     schedule: &mut Schedule,
 ) -> Result<Option<Event>, AllocError>
-    requires { 1 ≤ config.old.spare }
+    requires going { IsGoing program.now config.old }
+    requires spare { 1 ≤ config.old.spare }
     ensures { IfOk result (λ r. IsTurn program.now config.old r config.new) }
 {
     while let Some(pid) = schedule.next() {

@@ -2,6 +2,7 @@
 ghost use Rattle.std.specs.Prelude.{All, IfOk};
 ghost use Rattle.rast_equal.specs.Fault.{Answers, first_fault};
 ghost use Rattle.rast_equal.specs.Fit.{AreFit, IsFitEquation};
+ghost use Rattle.rast_equal.specs.Sound.{AreEqualWhereGood};
 ghost use Rattle.rast_equal.specs.Walk.{IsSame, same_points, top};
 
 use crate::answer::SameErr;
@@ -18,6 +19,9 @@ use std::alloc::Global;
 /// The first demand of the walk that is false or can't be decided is answered: `Fails` with where the walk stood
 /// and the first counterexample, `Wanted` where no reference serves, `Left` where references are left at the end,
 /// `Bound` where a bound is reached, and `Memory` for want of memory.
+///
+/// `Ok` says that the types are equal to every depth, at each valuation at which what is presumed is true: under each table of
+/// valid definitions under which the equations are good, where both types are valid.
 pub fn same(
     alloc: Global,
     equations: &[Equation],
@@ -30,6 +34,7 @@ pub fn same(
     requires equations { All IsFitEquation equations.now }
     ensures first { Answers (first_fault (same_points equations.now ctx.now.vars ctx.now.premises a.now b.now refs.now)) result }
     ensures holds { IfOk result (λ done. IsSame equations.now ctx.now.vars ctx.now.premises a.now b.now refs.now) }
+    ensures equal { IfOk result (λ done. AreEqualWhereGood equations.now ctx.now.vars ctx.now.premises a.now b.now) }
 {
     let mut pairs = Items::new(alloc);
     pairs.push(Pair {

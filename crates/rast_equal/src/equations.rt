@@ -5,6 +5,8 @@ ghost use Rattle.rast_types.specs.Symbolic.{exposed_type, is_deep};
 ghost use Rattle.rast_equal.specs.Equated.{Accepts, AcceptsNumbered, AnswersEquations, AreGood, ExposesBoth, IsFitExposed, SecondStop, equation_err, equations_fault, exposed_points, made, side_refused};
 ghost use Rattle.rast_equal.specs.Fault.{Decides};
 ghost use Rattle.rast_equal.specs.Fit.{IsFit, IsFitEquation, IsFitMet, IsFitTypeDef, IsWithinType};
+ghost use Rattle.rast_equal.specs.Sound.{AreDefined, HaveEqualSides};
+ghost use Rattle.rast_equal.specs.Valid.{IsValidTable};
 ghost use Rattle.rast_equal.specs.Walk.{Asks, IsGoodTable, count, equation_points, left, parts_served, serve, side_points, tagged, top};
 
 use crate::answer::SameErr;
@@ -38,6 +40,9 @@ pub struct EquationErr {
 ///
 /// `table` has the definitions that the equations name. The first premise that is false or can't be decided is
 /// answered, with the number of its equation, where the first equation has the number 1.
+///
+/// `Ok` says that the equations are a good table, and so that the sides of each are equal to every depth at each valuation at which
+/// its premise is true, where the definitions are valid.
 pub fn check_equations(
     alloc: Global,
     table: &TypeTable,
@@ -48,6 +53,7 @@ pub fn check_equations(
     requires equations { All IsFitEquation equations.now }
     ensures first { AnswersEquations (equations_fault table.now.defs equations.now 1 equations.now) result }
     ensures holds { IfOk result (λ done. IsGoodTable table.now.defs equations.now) }
+    ensures equal { IfOk result (λ done. AreDefined table.now.defs equations.now → IsValidTable table.now.defs → HaveEqualSides table.now.defs equations.now) }
 {
     for i in 0..equations.len() {
         check_numbered(alloc, table, equations, number_of(i), &equations[i])?;

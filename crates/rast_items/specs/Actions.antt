@@ -21,7 +21,7 @@ action_of (Turns rest d) = action.Turn rest d
 action_of (Works q rest) = action.Work q rest
 action_of (Delays t rest) = action.Delay t rest
 action_of (Halts v) = action.Halt v
-action_of Breaks = action.Stuck
+action_of Breaks = action.Breaks
 
 -- a value read as a natural below 2 ^ 64, if it is one
 abbrev pub IsReading : ℤ → Reading → Type 0

@@ -1,8 +1,8 @@
 -- The ends of a run: items that wait for a client, and states in which no process can do anything.
-use Rattle.std.specs.Prelude.{◌≡◌, ℕ, Bool, true, false, ◌&&◌, List, [], ◌∷◌, length, All}
-use Rattle.rast_items.specs.Items.{Link, Pid, Side, Client, Provider, Item, P, M, Proc, same_link, same_side}
-use Rattle.rast_items.specs.Deeds.{Code, Deed, Puts, Takes, Moves, Makes, Turns, Works, Delays, Halts, Breaks, deed}
-use Rattle.rast_items.specs.Step.{Next, Ready, Waits, Halted, Ended, Stuck}
+use Rattle.std.specs.Prelude.{◌≡◌, ℕ, length, All}
+use Rattle.rast_items.specs.Items.{Pid, Client, Provider, Item, P, M, Proc}
+use Rattle.rast_items.specs.Deeds.{Code, Deed, Takes, Moves, deed}
+use Rattle.rast_items.specs.Step.{Next, Waits, Ended}
 use Rattle.rast_items.specs.Run.{State, step_of}
 
 -- waits for a message from its client
@@ -27,14 +27,3 @@ AreIdle c st = (pid : Pid) → IsIdle (step_of c st pid)
 pub record IsFinished (c : Code) (st : State) : Type 0 where
   pub idle : AreIdle c st
   pub poised : All (IsPoised c (length st.births)) st.items
-
--- the same as tests
-
-abbrev pub waits_for_client : Proc → Deed → Bool
-waits_for_client p (Takes l s) = same_link l p.own && same_side s Provider
-waits_for_client p (Moves other wait) = same_link wait p.own
-waits_for_client p d = false
-
-abbrev pub is_poised : Code → ℕ → Item → Bool
-is_poised c k (P p) = waits_for_client p (deed c k p)
-is_poised c k (M m) = same_side m.toward Client

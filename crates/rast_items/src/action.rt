@@ -23,6 +23,6 @@ pub enum Action {
     Delay { ticks: u128, rest: Proc },
     /// It would need an index value of 2^64 or more.
     Halt { value: u128 },
-    /// No rule says what it does.
-    Stuck,
+    /// No rule says what it does. Runs of accepted programs never come to it.
+    Breaks,
 }

@@ -113,18 +113,18 @@ pub(crate) fn make(
     ensures { result ≡ action_of (makes_at made proc.now args.now decl next (slice_get program.now.decls decl) (pull channels.now proc.now.uses)) }
 {
     let Some(callee) = program.decls.get(decl as usize) else {
-        return Action::Stuck;
+        return Action::Breaks;
     };
     let session = Pid(made);
     let mut child = Proc::bare(session, callee.body, Link::first(session), proc.moment);
     let mut rest = *proc;
     if !hand_over(&mut rest, &mut child, channels) {
-        return Action::Stuck;
+        return Action::Breaks;
     }
     match arguments(&mut child, args, proc, callee) {
         Reading::Natural(potential) => spawn(child, rest, potential as u128, decl, next),
         Reading::Large(value) => Action::Halt { value },
-        Reading::Unfit => Action::Stuck,
+        Reading::Unfit => Action::Breaks,
     }
 }
 
@@ -134,7 +134,7 @@ fn spawn(child: Proc, rest: Proc, potential: u128, decl: u32, next: u32) -> Acti
     ensures { result ≡ action_of (spawned child rest potential decl next) }
 {
     if rest.potential < potential || rest.uses().len() >= 15 {
-        return Action::Stuck;
+        return Action::Breaks;
     }
     let mut child = child;
     child.potential = potential;
@@ -158,17 +158,17 @@ pub(crate) fn turn(
     ensures { result ≡ action_of (turns_at proc.now args.now decl (slice_get program.now.decls decl) (pull channels.now proc.now.uses)) }
 {
     let Some(callee) = program.decls.get(decl as usize) else {
-        return Action::Stuck;
+        return Action::Breaks;
     };
     let mut next = Proc::bare(proc.pid, callee.body, proc.own(), proc.moment);
     let mut left = *proc;
     if !hand_over(&mut left, &mut next, channels) {
-        return Action::Stuck;
+        return Action::Breaks;
     }
     match arguments(&mut next, args, proc, callee) {
         Reading::Natural(_) => replace(next, left, decl),
         Reading::Large(value) => Action::Halt { value },
-        Reading::Unfit => Action::Stuck,
+        Reading::Unfit => Action::Breaks,
     }
 }
 
@@ -178,7 +178,7 @@ fn replace(next: Proc, left: Proc, decl: u32) -> Action
     ensures { result ≡ action_of (replaced_by next left decl left.uses) }
 {
     if !left.uses().is_empty() {
-        return Action::Stuck;
+        return Action::Breaks;
     }
     let mut rest = next;
     rest.potential = left.potential;

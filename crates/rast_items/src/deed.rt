@@ -28,7 +28,7 @@ pub fn next_action(
 {
     let place = proc.node as usize;
     let Some(node) = program.nodes.get(place) else {
-        return Action::Stuck;
+        return Action::Breaks;
     };
     match node {
         Node::Label { x, label, next } => put(proc, *x, Body::Label(*label), 0, *next),
@@ -66,7 +66,7 @@ pub fn next_action(
             args.as_slice(),
             ys.as_slice(),
         ),
-        Node::Impossible => Action::Stuck,
+        Node::Impossible => Action::Breaks,
         Node::Work { amount, next } => work(proc, amount, *next),
         Node::Delay { ticks, next } => delay(proc, ticks, *next),
     }

@@ -42,10 +42,10 @@ pub(crate) fn put(proc: &Proc, channel: u32, body: Body, potential: u128, next: 
     ensures { result ≡ action_of (puts proc.now channel body potential next) }
 {
     let Some(link) = link_of(proc, channel) else {
-        return Action::Stuck;
+        return Action::Breaks;
     };
     if proc.potential < potential {
-        return Action::Stuck;
+        return Action::Breaks;
     }
     let after = link.after();
     let msg = Msg {
@@ -74,7 +74,7 @@ pub(crate) fn put_channel(proc: &Proc, channel: u32, sent: u32, next: u32) -> Ac
     let mut rest = *proc;
     match rest.take_channel(sent) {
         Some(link) => put(&rest, channel, Body::Chan(link), 0, next),
-        None => Action::Stuck,
+        None => Action::Breaks,
     }
 }
 
@@ -86,7 +86,7 @@ pub(crate) fn put_number(proc: &Proc, channel: u32, value: &Lin, next: u32) -> A
     match read(value, proc) {
         Reading::Natural(number) => put(proc, channel, Body::Nat(number), 0, next),
         Reading::Large(value) => Action::Halt { value },
-        Reading::Unfit => Action::Stuck,
+        Reading::Unfit => Action::Breaks,
     }
 }
 
@@ -98,7 +98,7 @@ pub(crate) fn put_potential(proc: &Proc, channel: u32, amount: &Lin, next: u32) 
     match read(amount, proc) {
         Reading::Natural(amount) => put(proc, channel, Body::Pay, amount as u128, next),
         Reading::Large(value) => Action::Halt { value },
-        Reading::Unfit => Action::Stuck,
+        Reading::Unfit => Action::Breaks,
     }
 }
 
@@ -107,7 +107,7 @@ pub(crate) fn close(proc: &Proc) -> Action
     ensures { result ≡ action_of (closes proc.now proc.now.uses) }
 {
     if !proc.uses().is_empty() {
-        return Action::Stuck;
+        return Action::Breaks;
     }
     let link = proc.own();
     let msg = Msg {
@@ -130,7 +130,7 @@ pub(crate) fn take(proc: &Proc, channel: u32) -> Action
             link,
             side: inward(channel),
         },
-        None => Action::Stuck,
+        None => Action::Breaks,
     }
 }
 
@@ -140,7 +140,7 @@ pub(crate) fn forward(proc: &Proc, used: u32, positive: bool) -> Action
 {
     let uses = proc.uses();
     if uses.len() != 1 || uses[0].0 != used {
-        return Action::Stuck;
+        return Action::Breaks;
     }
     let other = uses[0].1;
     let wait = if positive { other } else { proc.own() };
@@ -155,7 +155,7 @@ pub(crate) fn work(proc: &Proc, amount: &Lin, next: u32) -> Action
     match read(amount, proc) {
         Reading::Natural(amount) => spend(proc, amount as u128, next),
         Reading::Large(value) => Action::Halt { value },
-        Reading::Unfit => Action::Stuck,
+        Reading::Unfit => Action::Breaks,
     }
 }
 
@@ -164,7 +164,7 @@ fn spend(proc: &Proc, amount: u128, next: u32) -> Action
     ensures { result ≡ action_of (works proc.now next amount) }
 {
     if proc.potential < amount {
-        return Action::Stuck;
+        return Action::Breaks;
     }
     let mut rest = *proc;
     rest.potential -= amount;
@@ -180,7 +180,7 @@ pub(crate) fn delay(proc: &Proc, ticks: &Lin, next: u32) -> Action
     match read(ticks, proc) {
         Reading::Natural(ticks) => pass(proc, ticks, next),
         Reading::Large(value) => Action::Halt { value },
-        Reading::Unfit => Action::Stuck,
+        Reading::Unfit => Action::Breaks,
     }
 }
 

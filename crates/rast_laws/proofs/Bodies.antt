@@ -1,6 +1,5 @@
 -- Which bodies fit a head of each kind.
 use Rattle.std.proofs.Common.{◌≡◌, ℕ, ℤ, pos, Some, refl}
-use Rattle.rast_types.specs.declared.ty.Kind.{Kind}
 use Rattle.rast_types.specs.declared.ty.Kind.TheVariants as kind
 use Rattle.rast_laws.specs.Typed.{FitsKind}
 use Rattle.rast_order.proofs.Words.{Link, Body, Label, End, Chan, Nat, Assert, Pay}

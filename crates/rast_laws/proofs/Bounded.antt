@@ -1,7 +1,7 @@
 -- In the potential and the premises of a judgement only variables in scope occur.
-use Rattle.std.proofs.Common.{◌≡◌, ℕ, zero, suc, pos, ◌+◌, Bool, true, false, List, [], ◌∷◌, map, Option, Some, None, slice_get, refl, sym, ap, ◌∙◌, subst, arith, if◌then◌else◌}
+use Rattle.std.proofs.Common.{◌≡◌, ℕ, zero, suc, pos, ◌+◌, Bool, true, false, List, [], ◌∷◌, map, Option, Some, None, slice_get, sym, ap, ◌∙◌, subst, arith, if◌then◌else◌}
 use Rattle.rast_index.specs.Keys.{set_key, find_key}
-use Rattle.rast_index.specs.Linear.{Linear, less, plus, replaced, is_closed, nought}
+use Rattle.rast_index.specs.Linear.{Linear, less, plus, replaced, is_closed}
 use Rattle.rast_index.specs.Truth.{closed_step, is_closed_formula}
 use Rattle.rast_index.proofs.Scope.{both_true}
 use Rattle.rast_index.specs.declared.formula.Formula.{Formula}
@@ -12,20 +12,20 @@ use Rattle.rast_types.specs.declared.ty.Ty.{Ty, out-Ty}
 use Rattle.rast_types.specs.declared.ty.Ty.TheOpen.{Assert, Assume, Pays, Gets}
 use Rattle.rast_types.specs.Closed.{Layer}
 use Rattle.rast_types.specs.Symbolic.{is_scoped}
-use Rattle.rast_terms.specs.Nodes.{kids}
-use Rattle.rast_laws.specs.WellMade.{IsWellMade, IsMadeDecl, IsMadeNode, bound_variables}
+use Rattle.rast_made.specs.WellMade.{IsWellMade, IsMadeDecl, IsMadeNode, bound_variables}
 use Rattle.rast_terms.specs.declared.node.Node.{Node}
 use Rattle.rast_terms.specs.declared.node.Node.TheVariants as node
 use Rattle.rast_terms.specs.declared.program.Program.{Program}
 use Rattle.rast_terms.specs.declared.program.Decl.{Decl}
 use Rattle.rast_rules.specs.declared.judgement.Judgement.{Judgement}
-use Rattle.rast_rules.specs.Rules.{is_provided, with_type, without, with_channel, with_potential, with_variable, with_premise, or_one, head_at, choices_of, first_of_pair, second_of_pair, inner_of, formula_of, amount_of, formula_layer, amount_layer, root, delayed, at_args, spawned, child_at, asked, IsJudgement, at_root, at_child, IsAccepted}
-use Rattle.rast_laws.proofs.Scopes.{Within, AllWithin, within_closed, within_more, all_within, closed_less, closed_plus, closed_replaced}
-use Rattle.rast_laws.proofs.Scoped.{scoped_out, scoped_layer}
+use Rattle.rast_rules.specs.Rules.{is_provided, with_type, without, with_channel, with_potential, with_variable, with_premise, or_one, head_at, choices_of, first_of_pair, second_of_pair, inner_of, formula_of, amount_of, formula_layer, amount_layer, root, at_args, spawned, child_at, asked, IsJudgement, at_root, at_child, IsAccepted}
+use Rattle.rast_equal.proofs.Within.{Within, AllWithin, within_closed, within_more, all_within, closed_less, closed_plus, closed_replaced}
+use Rattle.rast_equal.proofs.Scoped.{scoped_out, scoped_layer}
 use Rattle.rast_laws.proofs.Judged.{AllAsked, limited_is, Judged, judged}
-use Rattle.rast_laws.proofs.Placed.{Shape, Placed, placed, node_made, head_scoped, only_one, child_shape, limited_get, all_get}
+use Rattle.rast_laws.proofs.Placed.{Shape, Placed, placed, node_made, head_scoped, only_one, child_shape, limited_get}
+use Rattle.rast_equal.proofs.Every.{all_get}
 use Rattle.rast_laws.proofs.Delaying.{closed_fixed}
-use Rattle.rast_laws.proofs.Steady.{AreSteady, steady_closed, steady_more, steady_append}
+use Rattle.rast_equal.proofs.Steady.{AreSteady, steady_closed, steady_more, steady_append}
 
 -- where so many variables are in scope
 pub record Bounded (n : ℕ) (j : Judgement) : Type 0 where

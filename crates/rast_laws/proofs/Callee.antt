@@ -1,16 +1,13 @@
 -- A process that stands at the body of a declaration, and main's process at the beginning.
-use Rattle.std.proofs.Common.{◌≡◌, ℕ, ℤ, pos, ◌+◌, true, false, not, List, [], ◌∷◌, length, Option, Some, None, slice_get, refl, sym, ap, ◌∙◌, subst}
-use Rattle.std.specs.List.{All, AllByRecursion}
-use Rattle.std.proofs.lemmas.List.Elements.{recursion_from_All}
+use Rattle.std.proofs.Common.{◌≡◌, ℕ, ℤ, pos, ◌+◌, List, [], ◌∷◌, length, Option, Some, None, slice_get, refl, sym, ap, ◌∙◌, subst}
+use Rattle.std.proofs.lemmas.List.Elements.{All-weaker, recursion_from_All}
 use Rattle.rast_index.specs.Keys.{numbered}
 use Rattle.rast_index.specs.Linear.{value, whole}
-use Rattle.rast_index.specs.Truth.{truth}
-use Rattle.rast_types.specs.declared.table.TypeDef.{TypeDef}
 use Rattle.rast_types.specs.declared.ty.Ty.{Ty}
-use Rattle.rast_types.specs.Closed.{Closed, closed, Table, View, view}
-use Rattle.rast_types.specs.Symbolic.{is_name}
-use Rattle.rast_equal.specs.Valid.{IsTrueClaim, IsValidType, nonneg, claims_of, def_claims}
-use Rattle.rast_laws.specs.WellMade.{IsWellMade, IsMadeType, IsMadeDef, IsMadeDecl, IsMadeMain}
+use Rattle.rast_types.specs.Closed.{closed, View, view}
+use Rattle.rast_equal.specs.Sound.{IsDefined, IsDefinedEquation, AreDefined}
+use Rattle.rast_equal.specs.Valid.{IsTrueClaim, IsValidType, claims_of}
+use Rattle.rast_made.specs.WellMade.{IsWellMade, IsMadeType, IsMadeDef, IsMadeDecl, IsMadeEquation, IsMadeMain}
 use Rattle.rast_terms.specs.declared.program.Program.{Program}
 use Rattle.rast_terms.specs.declared.program.Decl.{Decl}
 use Rattle.rast_rules.specs.Rules.{IsAccepted, IsValidDecl, IsJudgement, at_root, defs, root}
@@ -20,26 +17,33 @@ use Rattle.rast_items.specs.Run.{State, Birth, start, start_decl, start_main}
 use Rattle.rast_laws.specs.Typed.{due, born_view}
 use Rattle.rast_laws.specs.Sound.{IsReady}
 use Rattle.rast_order.proofs.Words.{Link, P, Proc, Provider}
-use Rattle.rast_laws.proofs.Equality.{equal_refl}
-use Rattle.rast_laws.proofs.Proper.{Proper}
+use Rattle.rast_equal.proofs.Equals.{equal_refl}
+use Rattle.rast_equal.proofs.Proper.{Proper}
 use Rattle.rast_laws.proofs.Channels.{SeenAt, AreSeen}
 use Rattle.rast_laws.proofs.Fine.{ProcFine, AllFine}
 use Rattle.rast_laws.proofs.Judged.{made_is}
-use Rattle.rast_laws.proofs.Placed.{all_get}
+use Rattle.rast_equal.proofs.Every.{all_get}
 use Rattle.rast_laws.proofs.Sending.{seen_same}
-use Rattle.rast_laws.proofs.Standing.{table_unnamed}
+use Rattle.rast_equal.proofs.Sames.{Grounds, grounds}
+use Rattle.rast_equal.proofs.WellFormed.{ValidDefs, valid_proper}
 use Rattle.rast_laws.proofs.Theorem.{MainLaw}
-use Rattle.rast_laws.proofs.Truths.{nonneg_true}
-use Rattle.rast_laws.proofs.Validity.{ValidDefs, valid_proper}
+use Rattle.rast_equal.proofs.Truths.{nonneg_true}
 
 -- ---- definitions and declarations
 
--- each definition of an accepted program stands for a valid type that is no name
+-- in a well made program each definition's body and each equation's sides are defined
+program_defined : (g : Program) → IsWellMade g → AreDefined (defs g) g.equations
+program_defined g w = record {
+  defs = All-weaker (IsMadeDef g) (λ d. IsDefined (defs g) d.params d.body) (λ d m. record { scoped = m.body.scoped; named = m.body.named }) (defs g) w.types;
+  equations = All-weaker (IsMadeEquation g) (IsDefinedEquation (defs g)) (λ e m. record { premise = m.premise; left = record { scoped = m.left.scoped; named = m.left.named }; right = record { scoped = m.right.scoped; named = m.right.named } }) g.equations w.equations;
+}
+
+-- and where it is accepted, its definitions are valid and its equations a good table
+pub program_grounds : (g : Program) → IsWellMade g → IsAccepted g → Grounds (defs g) g.equations
+program_grounds g w a = grounds (defs g) g.equations (program_defined g w) a.types a.equations
+
 pub valid_defs : (g : Program) → IsWellMade g → IsAccepted g → ValidDefs (defs g)
-valid_defs g w a k d e =
-    let h : AllByRecursion IsTrueClaim (def_claims (defs g) d) = recursion_from_All IsTrueClaim (def_claims (defs g) d) (all_get (λ d. All IsTrueClaim (def_claims (defs g) d)) (defs g) k d a.types e) in
-    let m : IsMadeDef g d = all_get (IsMadeDef g) (defs g) k d w.types e in
-    record { unnamed = table_unnamed (defs g) a.types k d e; valid = h.1; named = m.body.named; scoped = m.body.scoped }
+valid_defs g w a = (program_grounds g w a).defs
 
 -- a valid type of a declaration is well formed at all arguments
 pub type_proper : (g : Program) → IsWellMade g → IsAccepted g → (n : ℕ) (a : Ty) (vs : List ℕ) → IsMadeType g n a → IsValidType (defs g) n [] a → length vs ≡ n → Proper (defs g) (closed a (whole vs))

@@ -1,45 +1,45 @@
 -- A process that spawns or calls: arguments, handed channels and potential fit the callee's declaration.
-use Rattle.std.proofs.Common.{◌≡◌, ℕ, zero, suc, ℤ, pos, ◌-ℤ◌, ◌+◌, ◌-◌, ◌≤◌, ◌<◌, Bool, true, false, ◌&&◌, ◌||◌, List, [], ◌∷◌, ◌++◌, map, length, Option, Some, None, slice_get, refl, sym, ap, ap₂, ◌∙◌, subst, subst₂, arith, if◌then◌else◌, length-append, ltb-false}
-use Rattle.std.specs.Prelude.{nat_le, nat_lt, zip, filter}
-use Rattle.std.specs.List.{list_all, list_any, All, AllByRecursion}
+use Rattle.std.proofs.Common.{◌≡◌, ℕ, suc, pos, ◌-ℤ◌, ◌+◌, ◌-◌, ◌≤◌, ◌<◌, Bool, true, false, ◌&&◌, List, [], ◌∷◌, ◌++◌, map, length, Option, Some, slice_get, refl, sym, ap, ap₂, ◌∙◌, subst, arith, if◌then◌else◌, length-append, ltb-false}
+use Rattle.std.specs.Prelude.{zip, filter}
+use Rattle.std.specs.List.{list_all, list_any, AllByRecursion}
 use Rattle.std.proofs.lemmas.Bool.{le-leb, lt-ltb}
 use Rattle.std.proofs.lemmas.List.Elements.{recursion_from_All}
 use Rattle.rast_index.specs.Keys.{pull, numbered}
 use Rattle.rast_index.specs.Linear.{Linear, value, whole, replaced, less, is_closed}
-use Rattle.rast_index.specs.Truth.{truth, is_at_least, is_equal, all_small}
+use Rattle.rast_index.specs.Truth.{is_at_least, is_equal, all_small}
 use Rattle.rast_index.proofs.Values.{value_less, value_replaced}
 use Rattle.rast_types.specs.declared.equation.Ref.{Ref}
 use Rattle.rast_types.specs.declared.ty.Ty.{Ty}
-use Rattle.rast_types.specs.Closed.{Closed, closed, Table, Equal, View, view}
-use Rattle.rast_types.specs.Symbolic.{put_type, binders, is_deep, made_type}
+use Rattle.rast_types.specs.Closed.{closed, Table, Equal, View}
+use Rattle.rast_types.specs.Symbolic.{binders, is_deep, made_type}
 use Rattle.rast_equal.specs.Valid.{IsValidType, nonneg}
-use Rattle.rast_laws.specs.WellMade.{IsMadeType, IsMadeDecl, IsMadeCall}
+use Rattle.rast_made.specs.WellMade.{IsMadeType, IsMadeDecl, IsMadeCall}
 use Rattle.rast_terms.specs.declared.node.Node.{Node}
 use Rattle.rast_terms.specs.declared.node.Node.TheVariants as node
 use Rattle.rast_terms.specs.declared.program.Program.{Program}
 use Rattle.rast_terms.specs.declared.program.Decl.{Decl}
 use Rattle.rast_rules.specs.declared.judgement.Judgement.{Judgement}
-use Rattle.rast_rules.specs.Rules.{Askings, Asked, Is, Alike, IsJudgement, IsValidDecl, defs, used_type, or_one, at_args, failure, linear, is_provided, are_used, none_left, made_truth, arg_asked, spawn_asked, call_asked, without, with_channel, with_potential, spawned, root}
+use Rattle.rast_rules.specs.Rules.{Is, Alike, IsJudgement, IsValidDecl, defs, used_type, or_one, at_args, failure, linear, is_provided, are_used, none_left, made_truth, arg_asked, spawn_asked, call_asked, without, spawned, root}
 use Rattle.rast_items.specs.Items.{link_at}
-use Rattle.rast_items.specs.Deeds.{Code, Deed, Makes, Breaks, act, first, process_at, parent_after, has_room, makes, makes_at, turns, turns_at, argument_values, handed_over, with_arguments, with_values}
+use Rattle.rast_items.specs.Deeds.{Code, Deed, Makes, Breaks, act, first, process_at, parent_after, makes, makes_at, turns, turns_at, argument_values, handed_over, with_arguments, with_values}
 use Rattle.rast_laws.specs.Sound.{IsReady}
 use Rattle.rast_order.proofs.Words.{Link, Proc, Client, Provider}
-use Rattle.rast_laws.proofs.Equality.{equal_refl}
-use Rattle.rast_laws.proofs.Proper.{Proper}
-use Rattle.rast_laws.proofs.Channels.{SeenAt, AreSeen, seen_equal, seen_more, seen_none}
+use Rattle.rast_equal.proofs.Equals.{equal_refl}
+use Rattle.rast_equal.proofs.Proper.{Proper}
+use Rattle.rast_laws.proofs.Channels.{AreSeen, seen_equal, seen_more, seen_none}
 use Rattle.rast_laws.proofs.Fine.{Stands, ProcFine}
 use Rattle.rast_laws.proofs.Lawful.{Spawns, DeedFine}
-use Rattle.rast_laws.proofs.Judged.{AllAsked, IsTrueAsked, asked_left, asked_right, Limited, judged_limited, either_false}
+use Rattle.rast_laws.proofs.Judged.{AllAsked, IsTrueAsked, asked_left, asked_right, Limited, judged_limited}
+use Rattle.rast_equal.proofs.Every.{either_false, all_get}
 use Rattle.rast_laws.proofs.Meeting.{followed}
-use Rattle.rast_laws.proofs.Placed.{all_get}
 use Rattle.rast_laws.proofs.Sending.{seen_same}
 use Rattle.rast_laws.proofs.Standing.{Standing, child_of}
-use Rattle.rast_laws.proofs.Substitution.{values_of, whole-length}
-use Rattle.rast_laws.proofs.Truths.{equal_true, at_least_true, nonneg_true}
+use Rattle.rast_equal.proofs.Substitution.{values_of, whole-length}
+use Rattle.rast_equal.proofs.Truths.{equal_true, at_least_true, nonneg_true}
 use Rattle.rast_laws.proofs.Naturals.{naturals_fine, natural_fine}
 use Rattle.rast_laws.proofs.Works.{natural_rest}
 use Rattle.rast_laws.proofs.Delays.{made_follows}
-use Rattle.rast_laws.proofs.Callee.{type_proper, gives_proper, decl_potential, root_judged, AtBody, body_fine}
+use Rattle.rast_laws.proofs.Callee.{type_proper, gives_proper, decl_potential, root_judged, body_fine}
 use Rattle.rast_laws.proofs.Without.{seen_length}
 use Rattle.rast_laws.proofs.Pulling.{is_left, uses_of, none_are_left, Handed, Pulled, pulled, handed_length}
 use Rattle.rast_laws.proofs.Knowing.{AtArguments, at_arguments, argument_equal, given_equal, used_fit, gives_fit}

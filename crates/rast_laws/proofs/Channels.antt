@@ -6,8 +6,9 @@ use Rattle.rast_types.specs.Closed.{Closed, closed, Table, Equal, View, view, Se
 use Rattle.rast_order.proofs.Words.{Link, Side, Client, Provider}
 use Rattle.rast_order.proofs.Counts.{hit_self}
 use Rattle.rast_order.proofs.Keys.{held_by}
-use Rattle.rast_laws.proofs.Equality.{equal_sym}
-use Rattle.rast_laws.proofs.Proper.{Proper, proper_head, proper_equal, serves_left, serves_right}
+use Rattle.rast_equal.proofs.Equals.{equal_sym}
+use Rattle.rast_equal.proofs.Proper.{Proper, proper_head, proper_equal}
+use Rattle.rast_laws.proofs.Serving.{serves_left, serves_right}
 
 -- the view of the process that provides or uses a link, and the view due there
 abbrev pub Ties : Table → Side → View → View → Type 0

@@ -1,5 +1,5 @@
 -- A type after a delay: its ticks are less by the delay, and its head is the same.
-use Rattle.std.proofs.Common.{◌≡◌, ℕ, ℤ, pos, ◌+ℤ◌, ◌-ℤ◌, ◌*ℤ◌, ◌+◌, ◌≤◌, Bool, true, false, ◌&&◌, List, [], ◌∷◌, map, length, Option, Some, None, slice_get, refl, sym, ap, ap₂, ◌∙◌, subst, subst₂, arith, if◌then◌else◌}
+use Rattle.std.proofs.Common.{◌≡◌, ℕ, ℤ, pos, ◌+ℤ◌, ◌-ℤ◌, ◌*ℤ◌, ◌+◌, ◌≤◌, Bool, true, false, List, [], ◌∷◌, map, length, Option, Some, None, slice_get, refl, sym, ap, ap₂, ◌∙◌, subst, subst₂, arith, if◌then◌else◌}
 use Rattle.std.specs.List.{list_all}
 use Rattle.std.proofs.lemmas.Int.{ints}
 use Rattle.rast_index.specs.Linear.{Linear, value, weighted, whole, replaced, fixed, less, is_nought, int_eq}
@@ -8,21 +8,19 @@ use Rattle.rast_index.proofs.Values.{value_replaced, value_fixed, value_less}
 use Rattle.rast_index.proofs.Scope.{both_true, int_eq_true}
 use Rattle.rast_index.proofs.Whole.{zero_mul_ℤ}
 use Rattle.rast_types.specs.declared.table.TypeDef.{TypeDef}
-use Rattle.rast_types.specs.declared.ty.Kind.{Kind}
 use Rattle.rast_types.specs.declared.ty.Ty.{Ty, out-Ty}
 use Rattle.rast_types.specs.declared.ty.Ty.TheOpen.{One, Plus, With, Tensor, Lolli, Named, Ex, All, Assert, Assume, Pays, Gets, Next}
 use Rattle.rast_types.specs.declared.ty.Ty.TheVariants as ty
-use Rattle.rast_types.specs.Closed.{Closed, closed, Table, Layer, Equal, Exposed, exposed, exposed_layer, body_or, unfold_layer, unfolded, kind_layer, kind_of, part_of}
+use Rattle.rast_types.specs.Closed.{Closed, closed, Table, Layer, Equal, exposed, exposed_layer, body_or, unfold_layer, unfolded, kind_layer, kind_of}
 use Rattle.rast_types.specs.Symbolic.{put_type, binders, opened, opened_layer, body_at, Timed, timed, timed_layer, is_next, is_next_layer, is_scoped, before_delay, after_delay, timed_type}
-use Rattle.rast_laws.proofs.Equality.{SameHeads, HasKind, equal_refl, equal_sym, equal_heads, equal_ticks, some_same, exposes_to, heads_sym}
-use Rattle.rast_laws.proofs.Serving.{HasHead}
-use Rattle.rast_laws.proofs.Proper.{Proper, proper_head}
-use Rattle.rast_laws.proofs.Exposing.{heads_refl}
-use Rattle.rast_laws.proofs.Layers.{put_layer, out_put}
-use Rattle.rast_laws.proofs.Scopes.{AllWithin, all_within}
-use Rattle.rast_laws.proofs.Scoped.{scoped_out, scoped_layer}
-use Rattle.rast_laws.proofs.Substitution.{values_of, whole-length, replaced_values, put_equal, kind_put}
-use Rattle.rast_laws.proofs.Truths.{at_least_true}
+use Rattle.rast_equal.proofs.Equals.{SameHeads, HasKind, equal_refl, equal_heads, heads_sym, HasHead}
+use Rattle.rast_equal.proofs.Unfolds.{next_exposes, plain_unfolds, unfolds_exposes}
+use Rattle.rast_equal.proofs.Exposing.{heads_refl}
+use Rattle.rast_equal.proofs.Layers.{put_layer, out_put}
+use Rattle.rast_equal.proofs.Within.{AllWithin, all_within}
+use Rattle.rast_equal.proofs.Scoped.{scoped_out, scoped_layer}
+use Rattle.rast_equal.proofs.Substitution.{values_of, whole-length, put_equal, kind_put}
+use Rattle.rast_equal.proofs.Truths.{at_least_true}
 
 -- the same head, so many ticks earlier
 pub record Earlier (t : Table) (x y : Closed) (q : ℕ) : Type 0 where
@@ -180,35 +178,6 @@ both_layer t n a vs (Assert f b) o e few s h = let z : false ≡ true = ap is_ne
 both_layer t n a vs (Assume f b) o e few s h = let z : false ≡ true = ap is_next_layer (sym o) ∙ h in cc
 both_layer t n a vs (Pays p b) o e few s h = let z : false ≡ true = ap is_next_layer (sym o) ∙ h in cc
 both_layer t n a vs (Gets p b) o e few s h = let z : false ≡ true = ap is_next_layer (sym o) ∙ h in cc
-
--- ---- what is exposed of a closed type that is a next, or none
-
-pub next_exposes : (t : Table) (c : Closed) (l : Linear) (b : Ty) → out-Ty c.ty ≡ Next l b → exposed t c ≡ record { ticks = value l c.at; head = unfolded t (closed b c.at) }
-next_exposes t c l b o =
-    let u : unfolded t c ≡ c = ap (unfold_layer t c) o in
-    ap (λ x. exposed_layer t x (out-Ty x.ty)) u ∙ ap (exposed_layer t c) o
-
-pub unfolds_exposes : (t : Table) (c : Closed) → HasKind (unfolded t c) → exposed t c ≡ record { ticks = pos 0; head = unfolded t c }
-unfolds_exposes t c k = exposes_to t (unfolded t c) (out-Ty (unfolded t c).ty) k.0 k.1
-
--- where a closed type with a head doesn't unfold to a next, it unfolds to its head
-plain_layer : (t : Table) (c : Closed) (x : Layer) → is_next_layer x ≡ false → exposed_layer t c x ≡ record { ticks = pos 0; head = c }
-plain_layer t c (Next l b) h = cc
-plain_layer t c One h = refl
-plain_layer t c (Plus ts) h = refl
-plain_layer t c (With ts) h = refl
-plain_layer t c (Tensor b d) h = refl
-plain_layer t c (Lolli b d) h = refl
-plain_layer t c (Named k xs) h = refl
-plain_layer t c (Ex b) h = refl
-plain_layer t c (All b) h = refl
-plain_layer t c (Assert f b) h = refl
-plain_layer t c (Assume f b) h = refl
-plain_layer t c (Pays p b) h = refl
-plain_layer t c (Gets p b) h = refl
-
-pub plain_unfolds : (t : Table) (c : Closed) → is_next (unfolded t c).ty ≡ false → exposed t c ≡ record { ticks = pos 0; head = unfolded t c }
-plain_unfolds t c h = plain_layer t (unfolded t c) (out-Ty (unfolded t c).ty) h
 
 -- ---- the two cases of a delay
 

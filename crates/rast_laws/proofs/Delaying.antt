@@ -7,9 +7,8 @@ use Rattle.rast_types.specs.declared.ty.Ty.TheOpen.{Next}
 use Rattle.rast_types.specs.declared.ty.Ty.TheVariants as ty
 use Rattle.rast_types.specs.Closed.{Table, Layer}
 use Rattle.rast_types.specs.Symbolic.{is_scoped, opened, timed, timed_layer, Timed, before_delay, after_delay, is_next}
-use Rattle.rast_laws.proofs.Scopes.{Within, within_closed, closed_less, closed_from, tab_zero}
-use Rattle.rast_laws.proofs.Scoped.{scoped_out, scoped_layer}
-use Rattle.rast_laws.proofs.Shapes.{opened_scoped}
+use Rattle.rast_equal.proofs.Within.{Within, within_closed, closed_less, closed_from, tab_zero}
+use Rattle.rast_equal.proofs.Scoped.{scoped_out, scoped_layer, opened_scoped}
 
 pub closed_fixed : (n : ℕ) (z : ℤ) → is_closed n (fixed z) ≡ true
 closed_fixed n z = closed_from n (fixed z) (λ j a. tab_zero (λ i. pos 0) 0 16 j (λ b. refl))

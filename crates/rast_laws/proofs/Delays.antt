@@ -1,6 +1,6 @@
 -- A process that delays: each of its channels is seen as before, at a later moment.
-use Rattle.std.proofs.Common.{◌≡◌, ℕ, ℤ, pos, ◌+ℤ◌, ◌+◌, ◌≤◌, Bool, true, false, not, ◌||◌, List, [], ◌∷◌, ◌++◌, map, length, Option, Some, refl, sym, ap, ◌∙◌, subst, arith, if◌then◌else◌, zero, suc, ltb-false}
-use Rattle.std.specs.Prelude.{filter, nat_lt}
+use Rattle.std.proofs.Common.{◌≡◌, ℕ, ℤ, pos, ◌+ℤ◌, ◌+◌, ◌≤◌, Bool, true, false, not, List, [], ◌∷◌, ◌++◌, map, length, Option, refl, sym, ap, ◌∙◌, subst, arith, if◌then◌else◌, ltb-false}
+use Rattle.std.specs.Prelude.{filter}
 use Rattle.std.specs.List.{list_any}
 use Rattle.std.proofs.lemmas.Int.{ints}
 use Rattle.rast_index.specs.Linear.{Linear, value, whole, less, is_nought}
@@ -9,7 +9,7 @@ use Rattle.rast_index.specs.declared.formula.Formula.{Formula}
 use Rattle.rast_types.specs.declared.stop.Stop.TheVariants as stop
 use Rattle.rast_types.specs.declared.ty.Ty.{Ty}
 use Rattle.rast_types.specs.declared.ty.Ty.TheVariants as ty
-use Rattle.rast_types.specs.Closed.{Closed, closed, Table, Way, Equal, exposed, part_of, View, view, Serves}
+use Rattle.rast_types.specs.Closed.{Closed, closed, Table, exposed, View, view, Serves}
 use Rattle.rast_types.specs.Symbolic.{binders, is_deep, is_scoped, Timed, timed_type, before_delay, after_delay, is_passed_over}
 use Rattle.rast_equal.specs.Valid.{nonneg}
 use Rattle.rast_terms.specs.declared.node.Node.TheVariants as node
@@ -18,17 +18,18 @@ use Rattle.rast_terms.specs.declared.program.Program.{Program}
 use Rattle.rast_rules.specs.Rules.{IsJudgement, Asked, Is, Stopped, defs, delay_asked, delayed}
 use Rattle.rast_items.specs.Deeds.{Code, act, at_values, delays, first}
 use Rattle.rast_order.proofs.Words.{Link, Proc, Side, Client, Provider}
-use Rattle.rast_laws.proofs.Equality.{SameHeads, HasKind, heads_sym, equal_sym, equal_of_heads, part_across}
-use Rattle.rast_laws.proofs.Serving.{HasHead, serves_trans, serves_again}
-use Rattle.rast_laws.proofs.Proper.{Proper, proper_head, proper_heads}
+use Rattle.rast_equal.proofs.Equals.{heads_sym, HasHead}
+use Rattle.rast_laws.proofs.Serving.{serves_trans, serves_again}
+use Rattle.rast_equal.proofs.Proper.{Proper, proper_head, proper_heads}
 use Rattle.rast_laws.proofs.Channels.{Ties, SeenAt, AreSeen}
-use Rattle.rast_laws.proofs.Fine.{Stands, ProcFine}
+use Rattle.rast_laws.proofs.Fine.{Stands}
 use Rattle.rast_laws.proofs.Lawful.{DeedFine}
-use Rattle.rast_laws.proofs.Judged.{AllAsked, IsTrueAsked, Limited, judged_limited, either_false}
+use Rattle.rast_laws.proofs.Judged.{AllAsked, IsTrueAsked, Limited, judged_limited}
+use Rattle.rast_equal.proofs.Every.{either_false}
 use Rattle.rast_laws.proofs.Shapes.{AllScoped}
-use Rattle.rast_laws.proofs.Substitution.{binders_out, binders_layer}
+use Rattle.rast_equal.proofs.Substitution.{binders_out, binders_layer}
 use Rattle.rast_laws.proofs.Meeting.{followed}
-use Rattle.rast_laws.proofs.Truths.{nonneg_true}
+use Rattle.rast_equal.proofs.Truths.{nonneg_true}
 use Rattle.rast_laws.proofs.Standing.{Standing, child_of}
 use Rattle.rast_laws.proofs.Naturals.{natural_fine}
 use Rattle.rast_laws.proofs.Delayed.{Earlier, delayed_earlier}

@@ -15,9 +15,9 @@ use Rattle.rast_order.proofs.Words.{Link, Item, P, M, Proc, Msg, Side, Client, P
 use Rattle.rast_order.proofs.Counts.{hit_self, hit_of}
 use Rattle.rast_order.proofs.Keeps.{uses_client, uses_provider, gives_client, gives_provider}
 use Rattle.rast_order.proofs.Sound.{continued_some}
-use Rattle.rast_laws.proofs.Equality.{some_same}
+use Rattle.rast_equal.proofs.Equals.{some_same}
 use Rattle.rast_order.proofs.Keys.{held_by}
-use Rattle.rast_laws.proofs.Proper.{Proper}
+use Rattle.rast_equal.proofs.Proper.{Proper}
 use Rattle.rast_laws.proofs.Channels.{SeenAt, seen_due, AreSeen, seen_dues}
 
 -- ---- processes

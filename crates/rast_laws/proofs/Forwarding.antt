@@ -1,10 +1,10 @@
 -- A process that forwards: what is due on its used link serves what is due on its own, and it waits where the head says.
-use Rattle.std.proofs.Common.{◌≡◌, ℕ, zero, suc, ℤ, pos, ◌+◌, ◌≤◌, Bool, true, false, ◌==◌, List, [], ◌∷◌, ◌++◌, map, length, Option, Some, None, is_some, slice_get, refl, sym, ap, ◌∙◌, subst, subst₂, arith, if◌then◌else◌, eqb-true, eq-eqb}
-use Rattle.std.specs.Prelude.{slice_index_or as get_or, filter}
+use Rattle.std.proofs.Common.{◌≡◌, ℕ, zero, suc, ℤ, pos, ◌+◌, ◌≤◌, Bool, true, false, ◌==◌, List, [], ◌∷◌, ◌++◌, map, length, Option, Some, None, slice_get, refl, sym, ap, ◌∙◌, subst, arith, if◌then◌else◌, eqb-true, eq-eqb}
+use Rattle.std.specs.Prelude.{slice_index_or as get_or}
 use Rattle.std.proofs.lemmas.Bool.{ne_eqb}
 use Rattle.rast_index.specs.Keys.{find_key, drop_key}
-use Rattle.rast_index.specs.Linear.{Linear, value, whole, replaced, nought}
-use Rattle.rast_index.specs.Truth.{truth, is_equal}
+use Rattle.rast_index.specs.Linear.{Linear, value, whole, nought}
+use Rattle.rast_index.specs.Truth.{is_equal}
 use Rattle.rast_index.proofs.Values.{value_fixed}
 use Rattle.rast_types.specs.declared.table.TypeDef.{TypeDef}
 use Rattle.rast_types.specs.declared.equation.Ref.{Ref}
@@ -12,7 +12,7 @@ use Rattle.rast_types.specs.declared.ty.Kind.{Kind}
 use Rattle.rast_types.specs.declared.ty.Ty.{Ty, out-Ty}
 use Rattle.rast_types.specs.declared.ty.Ty.TheOpen.{One, Plus, With, Tensor, Lolli, Named, Ex, All, Assert, Assume, Pays, Gets, Next}
 use Rattle.rast_types.specs.Closed.{Closed, closed, Table, Layer, Exposed, exposed, exposed_layer, body_or, unfold_layer, unfolded, kind_layer, kind_of, is_positive, Equal, View, view, head, Serves}
-use Rattle.rast_types.specs.Symbolic.{put_type, opened, opened_layer, body_at, Timed, timed, timed_layer, exposed_type, is_next, is_next_layer, is_name, is_name_layer, is_scoped}
+use Rattle.rast_types.specs.Symbolic.{opened, opened_layer, body_at, Timed, timed, timed_layer, exposed_type, is_next, is_next_layer, is_scoped}
 use Rattle.rast_terms.specs.declared.node.Node.TheVariants as node
 use Rattle.rast_terms.specs.declared.program.Program.{Program}
 use Rattle.rast_rules.specs.declared.judgement.Judgement.{Judgement}
@@ -20,21 +20,22 @@ use Rattle.rast_rules.specs.Rules.{Is, Alike, defs, is_provided, used_type, type
 use Rattle.rast_items.specs.Deeds.{Code, Moves, Breaks, act, forwards}
 use Rattle.rast_laws.specs.Sound.{IsReady}
 use Rattle.rast_order.proofs.Words.{Link, Proc, Client}
-use Rattle.rast_laws.proofs.Equality.{SameHeads, HasKind, some_of}
-use Rattle.rast_laws.proofs.Serving.{HasHead, serves_equal, serves_trans}
-use Rattle.rast_laws.proofs.Proper.{Proper, proper_head, serves_same}
+use Rattle.rast_equal.proofs.Equals.{SameHeads, HasKind, some_of, HasHead}
+use Rattle.rast_equal.proofs.Unfolds.{plain_unfolds}
+use Rattle.rast_laws.proofs.Serving.{serves_equal, serves_trans, serves_same}
+use Rattle.rast_equal.proofs.Proper.{proper_head}
 use Rattle.rast_laws.proofs.Channels.{SeenAt, AreSeen}
 use Rattle.rast_laws.proofs.Fine.{Stands}
 use Rattle.rast_laws.proofs.Lawful.{Forwards, DeedFine}
 use Rattle.rast_laws.proofs.Judged.{AllAsked, IsTrueAsked, asked_left, asked_right}
-use Rattle.rast_laws.proofs.Layers.{put_layer, out_put}
+use Rattle.rast_equal.proofs.Layers.{out_put}
 use Rattle.rast_laws.proofs.Meeting.{followed}
 use Rattle.rast_laws.proofs.Placed.{Shape}
 use Rattle.rast_laws.proofs.Shapes.{Rising}
 use Rattle.rast_laws.proofs.Standing.{Standing}
-use Rattle.rast_laws.proofs.Substitution.{kind_put}
-use Rattle.rast_laws.proofs.Truths.{equal_true}
-use Rattle.rast_laws.proofs.Delayed.{NextBoth, both_layer, next_opened, plain_unfolds}
+use Rattle.rast_equal.proofs.Substitution.{kind_put}
+use Rattle.rast_equal.proofs.Truths.{equal_true}
+use Rattle.rast_laws.proofs.Delayed.{NextBoth, both_layer, next_opened}
 use Rattle.rast_laws.proofs.Pulling.{left_drop, all_left, none_are_left}
 use Rattle.rast_laws.proofs.Knowing.{alike_equal, used_fit, gives_fit}
 

@@ -12,8 +12,8 @@ use Rattle.rast_order.proofs.Counts.{provided-append, used-append, on, on-append
 use Rattle.rast_order.proofs.Keys.{held_by}
 use Rattle.rast_order.proofs.Deeds.{PutSound}
 use Rattle.rast_order.proofs.Keeps.{uses_provider, gives_client}
-use Rattle.rast_laws.proofs.Equality.{some_same}
-use Rattle.rast_laws.proofs.Proper.{serves_same}
+use Rattle.rast_equal.proofs.Equals.{some_same}
+use Rattle.rast_laws.proofs.Serving.{serves_same}
 use Rattle.rast_laws.proofs.Fine.{MsgFine, AllFine, fine_left, fine_right}
 use Rattle.rast_laws.proofs.Lawful.{Toward, Forwards}
 

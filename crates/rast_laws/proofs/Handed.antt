@@ -12,9 +12,8 @@ use Rattle.rast_order.proofs.Words.{Link, Item, P, M, Proc, Msg, Client, Provide
 use Rattle.rast_order.proofs.Counts.{on, on-append, hit_self}
 use Rattle.rast_order.proofs.Keys.{held_by}
 use Rattle.rast_order.proofs.Deeds.{DeedSound, deed_sound}
-use Rattle.rast_laws.proofs.Equality.{some_same, SameHeads, heads_sym}
-use Rattle.rast_laws.proofs.Serving.{suits_client, suits_provider}
-use Rattle.rast_laws.proofs.Proper.{serves_same}
+use Rattle.rast_equal.proofs.Equals.{some_same, SameHeads, heads_sym}
+use Rattle.rast_laws.proofs.Serving.{suits_client, suits_provider, serves_same}
 use Rattle.rast_laws.proofs.Fine.{MsgFine, AllFine, fine_left, fine_right, fine_append}
 use Rattle.rast_laws.proofs.Lawful.{Toward, Forwards, DeedLaw}
 use Rattle.rast_laws.proofs.Freely.{free_provided, free_used, forward_mine, forward_yours, msg_toward}

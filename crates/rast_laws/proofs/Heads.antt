@@ -1,11 +1,10 @@
 -- The parts of a head, as types with its values.
-use Rattle.std.proofs.Common.{◌≡◌, ℕ, ℤ, pos, cond, Bool, true, false, List, [], ◌∷◌, ◌++◌, Option, Some, None, refl, sym, ap, ◌∙◌, if◌then◌else◌}
+use Rattle.std.proofs.Common.{◌≡◌, ℕ, ℤ, pos, cond, Bool, true, false, List, [], ◌∷◌, ◌++◌, Option, Some, None, refl, ap, if◌then◌else◌}
 use Rattle.rast_index.specs.Keys.{find_key}
 use Rattle.rast_index.specs.Linear.{value}
 use Rattle.rast_index.specs.Truth.{truth}
 use Rattle.rast_types.specs.declared.ty.Ty.{Ty, out-Ty}
 use Rattle.rast_types.specs.declared.ty.Ty.TheOpen.{Plus, With, Tensor, Lolli, Ex, All, Assert, Assume, Pays, Gets}
-use Rattle.rast_types.specs.declared.ty.Kind.{Kind}
 use Rattle.rast_types.specs.declared.ty.Kind.TheVariants as kind
 use Rattle.rast_types.specs.Closed.{Closed, closed, Layer, Label, First, Second, Inner, At, close_some, part_of, part_layer, kind_of, kind_layer, figure_of, figure_layer}
 use Rattle.rast_rules.specs.Rules.{or_one, choices_of, choices_layer, pair_layer, first_or, second_or, first_of_pair, second_of_pair, inner_layer, inner_of, formula_layer, formula_of, amount_layer, amount_of}

@@ -19,6 +19,7 @@ use Rattle.rast_rules.specs.declared.judgement.Judgement.{Judgement}
 use Rattle.rast_rules.specs.declared.premise.Premise.{Premise}
 use Rattle.rast_rules.specs.declared.premise.Premise.TheVariants.{Truth, Shape, Same, Passed}
 use Rattle.rast_rules.specs.Rules.{Asked, Is, Shaped, Alike, Stopped, Askings, asked, deal, share, until_stop, stops, premise_of, premises, IsTruePremise, IsMade, IsJudgement, at_root, at_child, IsAccepted, children, child_at, head_at, limited, root, all_types, is_small_judgement}
+use Rattle.rast_equal.proofs.Every.{either_false}
 
 -- ---- what is asked is true
 
@@ -75,10 +76,6 @@ pub record Limited (j : Judgement) : Type 0 where
   pub vars : j.ctx.vars ≤ 16
   pub shallow : list_any (λ a. is_deep j.ctx.vars a.1) (all_types j) ≡ false
   pub few : length j.uses ≤ 15
-
-pub either_false : (a b : Bool) → a || b ≡ false → (a ≡ false) × (b ≡ false)
-either_false true b h = cc
-either_false false b h = (refl, h)
 
 limit_facts : (j k : Judgement) (deep many small : Bool) → (if deep then Err stop.Variables else (if many then Err stop.Channels else (if small then Ok j else Err stop.Coefficient))) ≡ Ok k → (deep ≡ false) × (many ≡ false) × (k ≡ j)
 limit_facts j k true many small h = cc

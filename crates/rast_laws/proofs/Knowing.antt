@@ -1,34 +1,32 @@
 -- Types of a judgement at the values of a process: what a premise calls the same is equal.
-use Rattle.std.proofs.Common.{◌≡◌, ℕ, ◌+◌, ◌≤◌, true, false, List, length, Option, Some, None, slice_get, refl, sym, ap, ◌∙◌, subst, ltb-false, if◌then◌else◌, Bool}
-use Rattle.std.specs.Prelude.{Result, Ok, Err}
+use Rattle.std.proofs.Common.{◌≡◌, ℕ, ◌+◌, ◌≤◌, true, false, List, length, Option, Some, None, refl, ◌∙◌, subst, ltb-false, Bool}
 use Rattle.std.specs.List.{list_all}
 use Rattle.rast_index.specs.Linear.{Linear, whole, is_closed}
-use Rattle.rast_types.specs.declared.stop.Stop.{Stop}
-use Rattle.rast_types.specs.declared.stop.Stop.TheVariants as stop
 use Rattle.rast_types.specs.declared.ty.Ty.{Ty}
-use Rattle.rast_types.specs.Closed.{Closed, closed, Table, Equal, View}
-use Rattle.rast_types.specs.Symbolic.{put_type, binders, is_deep, is_small_type, is_scoped, made_type, within}
+use Rattle.rast_types.specs.Closed.{closed, Table, Equal, View}
+use Rattle.rast_types.specs.Symbolic.{put_type, binders, is_deep, is_small_type, made_type, within}
 use Rattle.rast_equal.specs.Walk.{top}
-use Rattle.rast_laws.specs.WellMade.{IsMadeType}
+use Rattle.rast_made.specs.WellMade.{IsMadeType}
 use Rattle.rast_terms.specs.declared.node.Node.{Node}
 use Rattle.rast_terms.specs.declared.program.Program.{Program}
 use Rattle.rast_rules.specs.declared.judgement.Judgement.{Judgement}
-use Rattle.rast_rules.specs.Rules.{Alike, defs, used_type, or_one, at_args, failure}
+use Rattle.rast_rules.specs.Rules.{Alike, defs, used_type, at_args, failure}
 use Rattle.rast_items.specs.Deeds.{Code}
 use Rattle.rast_laws.specs.Sound.{IsReady}
-use Rattle.rast_order.proofs.Words.{Link, Proc, Side}
-use Rattle.rast_laws.proofs.Equality.{equal_sym, equal_trans}
-use Rattle.rast_laws.proofs.Proper.{Proper, proper_equal}
-use Rattle.rast_laws.proofs.Channels.{SeenAt}
+use Rattle.rast_order.proofs.Words.{Link, Proc}
+use Rattle.rast_equal.proofs.Equals.{equal_sym, equal_trans}
+use Rattle.rast_equal.proofs.Proper.{Proper, proper_equal}
 use Rattle.rast_laws.proofs.Judged.{IsTrueAsked}
-use Rattle.rast_laws.proofs.Scopes.{all_within}
-use Rattle.rast_laws.proofs.Scoped.{scoped_put}
+use Rattle.rast_equal.proofs.Within.{all_within}
+use Rattle.rast_equal.proofs.Scoped.{scoped_put}
 use Rattle.rast_laws.proofs.Shapes.{scoped_find}
 use Rattle.rast_laws.proofs.Standing.{Standing}
-use Rattle.rast_laws.proofs.Substitution.{values_of, put_equal}
-use Rattle.rast_laws.proofs.Agreeing.{Valued, Fit}
-use Rattle.rast_laws.proofs.Named.{NamedIn, judgement_named, named_find, named_put}
-use Rattle.rast_laws.proofs.Sames.{same_equal}
+use Rattle.rast_equal.proofs.Substitution.{values_of, put_equal}
+use Rattle.rast_equal.proofs.Agreeing.{Valued, Fit}
+use Rattle.rast_laws.proofs.Named.{judgement_named, named_find}
+use Rattle.rast_equal.proofs.Named.{named_put}
+use Rattle.rast_equal.proofs.Sames.{same_equal}
+use Rattle.rast_laws.proofs.Callee.{program_grounds}
 
 -- the values of a process, at its judgement
 valued : (g : Program) (d : Link → Option View) (p : Proc) (j : Judgement) (nd : Node) → Standing g d p j nd → Valued (top j.ctx.vars j.ctx.premises) p.values
@@ -36,7 +34,7 @@ valued g d p j nd s = record { sized = s.stands.vars; holds = s.stands.premises;
 
 -- two types that a premise calls the same
 pub alike_equal : (c : Code) → IsReady c → (d : Link → Option View) (p : Proc) (j : Judgement) (nd : Node) (a b : Ty) → Standing c.program d p j nd → IsTrueAsked c.program j (Alike a b None) → Fit (defs c.program) j.ctx.vars p.values a → Fit (defs c.program) j.ctx.vars p.values b → Equal (defs c.program) (closed a (whole p.values)) (closed b (whole p.values))
-alike_equal c r d p j nd a b s h x y = same_equal c.program r.made r.accepted j.ctx.vars j.ctx.premises a b h.0 p.values h.1 (valued c.program d p j nd s) x y
+alike_equal c r d p j nd a b s h x y = same_equal (defs c.program) c.program.equations (program_grounds c.program r.made r.accepted) j.ctx.vars j.ctx.premises a b h.0 p.values h.1 (valued c.program d p j nd s) x y
 
 -- a type of a used channel, and of the provided one
 pub used_fit : (c : Code) → IsReady c → (d : Link → Option View) (p : Proc) (j : Judgement) (nd : Node) (y : ℕ) (a : Ty) → Standing c.program d p j nd → used_type j y ≡ Some a → Proper (defs c.program) (closed a (whole p.values)) → Fit (defs c.program) j.ctx.vars p.values a

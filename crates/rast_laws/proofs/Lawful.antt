@@ -9,7 +9,7 @@ use Rattle.rast_rules.specs.Rules.{defs}
 use Rattle.rast_items.specs.Deeds.{Code, Deed, Puts, Takes, Moves, Makes, Turns, Works, Delays, Halts, Breaks, deed, after_take}
 use Rattle.rast_laws.specs.Typed.{IsToward, next_view}
 use Rattle.rast_order.proofs.Words.{Link, Proc, Msg, Side}
-use Rattle.rast_laws.proofs.Proper.{Proper}
+use Rattle.rast_equal.proofs.Proper.{Proper}
 use Rattle.rast_laws.proofs.Fine.{ProcFine, MsgFine}
 
 -- messages on this link go to this side

@@ -16,16 +16,17 @@ use Rattle.rast_rules.specs.declared.judgement.Judgement.{Judgement}
 use Rattle.rast_rules.specs.Rules.{defs, is_provided, type_of, used_type, head_at}
 use Rattle.rast_items.specs.Deeds.{link_of, inward}
 use Rattle.rast_order.proofs.Words.{Link, Proc, Side, Client, Provider}
-use Rattle.rast_laws.proofs.Equality.{SameHeads, heads_sym, heads_trans}
-use Rattle.rast_laws.proofs.Proper.{Proper, proper_head, serves_same}
+use Rattle.rast_equal.proofs.Equals.{SameHeads, heads_sym, heads_trans}
+use Rattle.rast_equal.proofs.Proper.{Proper, proper_head}
+use Rattle.rast_laws.proofs.Serving.{serves_same}
 use Rattle.rast_laws.proofs.Channels.{Ties, SeenAt, HasLink, seen_link}
 use Rattle.rast_laws.proofs.Fine.{Stands}
-use Rattle.rast_laws.proofs.Exposing.{Unnamed, ExposedAs, exposed_is}
+use Rattle.rast_equal.proofs.Exposing.{Unnamed, ExposedAs, exposed_is}
 use Rattle.rast_laws.proofs.Judged.{Limited}
 use Rattle.rast_laws.proofs.Asking.{Touches}
 use Rattle.rast_laws.proofs.Shapes.{scoped_find}
 use Rattle.rast_laws.proofs.Placed.{Shape}
-use Rattle.rast_laws.proofs.Truths.{equal_true}
+use Rattle.rast_equal.proofs.Truths.{equal_true}
 
 -- ---- moments
 

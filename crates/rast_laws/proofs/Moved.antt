@@ -4,8 +4,8 @@ use Rattle.rast_types.specs.Closed.{Table, Way, Label as ByLabel, First, Second,
 use Rattle.rast_items.specs.Step.{moved, moved_next}
 use Rattle.rast_laws.specs.Typed.{IsToward, FitsKind}
 use Rattle.rast_order.proofs.Words.{Link, Msg, Body, Label, End, Chan, Nat, Assert, Pay, Client, Provider}
-use Rattle.rast_laws.proofs.Equality.{SameHeads, part_across}
-use Rattle.rast_laws.proofs.Proper.{Proper}
+use Rattle.rast_equal.proofs.Equals.{SameHeads, part_across}
+use Rattle.rast_equal.proofs.Proper.{Proper}
 use Rattle.rast_laws.proofs.Channels.{seen_equal}
 use Rattle.rast_laws.proofs.Fine.{GoesAt, CarriesAt, Goes, MsgFine}
 

@@ -1,7 +1,7 @@
 -- Each judgement of a well made and accepted program has its channels in order and its types in scope.
 use Rattle.std.proofs.Common.{◌≡◌, ℕ, zero, suc, ◌+◌, ◌≤◌, Bool, true, false, not, ◌==◌, List, [], ◌∷◌, ◌++◌, map, length, Option, Some, None, slice_get, refl, sym, ap, ◌∙◌, subst, subst₂, arith, if◌then◌else◌, eqb-true}
 use Rattle.std.specs.Prelude.{Ok}
-use Rattle.std.specs.List.{list_any, All, AllByRecursion}
+use Rattle.std.specs.List.{list_any, AllByRecursion}
 use Rattle.std.proofs.lemmas.List.Elements.{recursion_from_All}
 use Rattle.rast_index.specs.Keys.{find_key, set_key, numbered}
 use Rattle.rast_index.specs.Truth.{is_closed_formula}
@@ -14,19 +14,20 @@ use Rattle.rast_types.specs.declared.ty.Ty.TheOpen.{Ex, All as Each, Assert, Ass
 use Rattle.rast_types.specs.Closed.{Layer, kind_layer}
 use Rattle.rast_types.specs.Symbolic.{put_type, is_scoped, exposed_type, after_delay}
 use Rattle.rast_terms.specs.Nodes.{Touch, touches, kids}
-use Rattle.rast_laws.specs.WellMade.{IsWellMade, IsMadeType, IsMadeDecl, IsMadeNode, StandsIn, at_root as stands_root, at_child as stands_child, bound_variables, bound_channels}
+use Rattle.rast_made.specs.WellMade.{IsWellMade, IsMadeType, IsMadeDecl, IsMadeNode, StandsIn, at_root as stands_root, at_child as stands_child, bound_variables, bound_channels}
 use Rattle.rast_terms.specs.declared.node.Node.{Node}
 use Rattle.rast_terms.specs.declared.node.Node.TheVariants as node
 use Rattle.rast_terms.specs.declared.program.Program.{Program}
 use Rattle.rast_terms.specs.declared.program.Decl.{Decl}
 use Rattle.rast_rules.specs.declared.judgement.Judgement.{Judgement}
 use Rattle.rast_rules.specs.Rules.{defs, is_provided, used_type, type_of, with_type, without, with_channel, with_potential, widened, with_variable, or_one, head_at, choices_of, inner_layer, first_of_pair, second_of_pair, inner_of, root, delayed, at_args, spawned, child_at, children, limited, asked, touch_asked, node_asked, IsJudgement, at_root, at_child, IsAccepted}
-use Rattle.rast_laws.proofs.Scopes.{Within, AllWithin, all_within, within_closed, all_within_append, variables_within}
-use Rattle.rast_laws.proofs.Scoped.{scoped_out, scoped_layer, scoped_put}
+use Rattle.rast_equal.proofs.Within.{Within, AllWithin, all_within, within_closed, all_within_append, variables_within}
+use Rattle.rast_equal.proofs.Scoped.{scoped_out, scoped_layer, scoped_put, exposed_scoped}
 use Rattle.rast_laws.proofs.Judged.{AllAsked, limited_is, Judged, judged}
 use Rattle.rast_laws.proofs.Asking.{Touches, touches_asked}
-use Rattle.rast_laws.proofs.Shapes.{Rising, rising_numbered, rising_set, rising_filter, rising_more, rising_map, AllScoped, scoped_one, scoped_find, scoped_or, scoped_set, scoped_filter, scoped_more, scoped_map, exposed_scoped, choices_scoped, pair_scoped}
+use Rattle.rast_laws.proofs.Shapes.{Rising, rising_numbered, rising_set, rising_filter, rising_more, rising_map, AllScoped, scoped_one, scoped_find, scoped_or, scoped_set, scoped_filter, scoped_more, scoped_map, choices_scoped, pair_scoped}
 use Rattle.rast_laws.proofs.Delaying.{after_scoped}
+use Rattle.rast_equal.proofs.Every.{all_get}
 
 -- so many variables and channels below a number
 pub record Shape (vars fresh : ℕ) (j : Judgement) : Type 0 where
@@ -227,15 +228,6 @@ child_shape g v f j (node.Work r n) c i h q m e = only_shape v f _ c i e (shape_
 child_shape g v f j (node.Delay t n) c i h q m e = only_shape v f _ c i e (shape_delayed g v f j t (within_closed v t m) h)
 
 -- ---- whole programs
-
-pub every_get : {A : Type 0} (F : A → Type 0) (xs : List A) (k : ℕ) (x : A) → AllByRecursion F xs → slice_get xs k ≡ Some x → F x
-every_get {A} F [] zero x h e = cc
-every_get {A} F [] (suc k) x h e = cc
-every_get {A} F (y ∷ xs) zero x h e = let s : y ≡ x = cc in subst F s h.0
-every_get {A} F (y ∷ xs) (suc k) x h e = every_get F xs k x h.1 e
-
-pub all_get : {A : Type 0} (F : A → Type 0) (xs : List A) (k : ℕ) (x : A) → All F xs → slice_get xs k ≡ Some x → F x
-all_get {A} F xs k x h e = every_get F xs k x (recursion_from_All F xs h) e
 
 pub record Placed (g : Program) (n : ℕ) (j : Judgement) : Type 0 where
   pub shape : Shape j.ctx.vars j.fresh j

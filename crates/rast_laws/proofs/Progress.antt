@@ -7,7 +7,7 @@ use Rattle.rast_items.specs.Items.{link_at, provides, uses, hit, times, provided
 use Rattle.rast_items.specs.Deeds.{Code, Deed, Puts, Takes, Moves, Makes, Turns, Works, Delays, Halts, Breaks, deed}
 use Rattle.rast_items.specs.Step.{Ready, Cut, cut, is_msg, does, take_client, take_provider, take_from, take_it, move_it, move_client, move_provider}
 use Rattle.rast_laws.specs.Typed.{IsToward}
-use Rattle.rast_laws.specs.Ends.{IsIdle, IsPoised, WaitsForClient}
+use Rattle.rast_items.specs.Ends.{IsIdle, IsPoised, WaitsForClient}
 use Rattle.rast_order.proofs.Words.{Link, Pid, Item, P, M, Proc, Msg, Side, Client, Provider, Event, Take}
 use Rattle.rast_order.proofs.Counts.{provided-append, hit_self, hit_of, hit_cases}
 use Rattle.rast_order.proofs.Keys.{held_by}

@@ -1,17 +1,17 @@
 -- Channels that a spawn or a call hands over, and those that are left.
-use Rattle.std.proofs.Common.{◌≡◌, ℕ, zero, suc, ℤ, ◌+◌, ◌≤◌, ◌<◌, Bool, true, false, not, ◌&&◌, ◌||◌, ◌==◌, List, [], ◌∷◌, ◌++◌, map, length, Option, Some, None, is_some, refl, sym, ap, ap₂, ◌∙◌, subst, subst₂, arith, if◌then◌else◌, cond, eqb-true, eq-eqb}
+use Rattle.std.proofs.Common.{◌≡◌, ℕ, suc, ℤ, ◌+◌, ◌<◌, Bool, true, false, not, ◌||◌, ◌==◌, List, [], ◌∷◌, length, Option, Some, None, is_some, refl, sym, ap, ap₂, ◌∙◌, subst, arith, if◌then◌else◌, cond, eqb-true, eq-eqb}
 use Rattle.std.specs.Prelude.{filter}
 use Rattle.std.specs.List.{list_any}
 use Rattle.std.proofs.lemmas.Bool.{ne_eqb}
 use Rattle.rast_index.specs.Keys.{find_key, drop_key, put_first, pull}
 use Rattle.rast_index.proofs.Scope.{both_true}
 use Rattle.rast_types.specs.declared.ty.Ty.{Ty}
-use Rattle.rast_types.specs.Closed.{Closed, closed, Table, View}
+use Rattle.rast_types.specs.Closed.{closed, Table, View}
 use Rattle.rast_terms.specs.declared.program.Program.{Program}
 use Rattle.rast_rules.specs.declared.judgement.Judgement.{Judgement}
-use Rattle.rast_rules.specs.Rules.{used_type, is_new, are_used, without, none_left}
+use Rattle.rast_rules.specs.Rules.{used_type, is_new, are_used, none_left}
 use Rattle.rast_order.proofs.Words.{Link, Client}
-use Rattle.rast_laws.proofs.Equality.{some_of}
+use Rattle.rast_equal.proofs.Equals.{some_of}
 use Rattle.rast_laws.proofs.Channels.{SeenAt, AreSeen, HasLink, seen_link, seen_drop}
 use Rattle.rast_laws.proofs.Judged.{AllAsked}
 use Rattle.rast_laws.proofs.Shapes.{Rising, rising_from}

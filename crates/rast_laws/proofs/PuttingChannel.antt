@@ -1,5 +1,5 @@
 -- The send of a channel, and the send of the end.
-use Rattle.std.proofs.Common.{◌≡◌, ℕ, zero, suc, ℤ, pos, ◌+◌, ◌-◌, Bool, true, false, not, ◌&&◌, ◌==◌, List, [], ◌∷◌, ◌++◌, Option, Some, None, is_some, arith, refl, sym, ap, ◌∙◌, subst, subst₂, if◌then◌else◌, eqb-true}
+use Rattle.std.proofs.Common.{◌≡◌, ℕ, zero, suc, ℤ, pos, Bool, true, false, not, ◌==◌, List, [], ◌∷◌, Option, Some, None, is_some, arith, refl, sym, ap, ◌∙◌, subst, if◌then◌else◌, eqb-true}
 use Rattle.std.proofs.lemmas.Bool.{le-leb}
 use Rattle.rast_index.specs.Keys.{find_key}
 use Rattle.rast_index.specs.Linear.{whole, nought}
@@ -11,7 +11,7 @@ use Rattle.rast_types.specs.declared.ty.Kind.{Kind}
 use Rattle.rast_types.specs.declared.ty.Kind.TheVariants as kind
 use Rattle.rast_types.specs.declared.ty.Ty.{Ty, out-Ty}
 use Rattle.rast_types.specs.declared.ty.Ty.TheOpen.{One, Plus, With, Tensor, Lolli, Named, Ex, All, Assert, Assume, Pays, Gets, Next}
-use Rattle.rast_types.specs.Closed.{Closed, closed, Table, Layer, First, Second, part_of, part_layer, kind_of, kind_layer, figure_of, Equal, View, head}
+use Rattle.rast_types.specs.Closed.{closed, Table, Layer, First, Second, part_of, part_layer, kind_of, kind_layer, figure_of, Equal, View, head}
 use Rattle.rast_terms.specs.Nodes.{Touch}
 use Rattle.rast_terms.specs.declared.node.Node.{Node}
 use Rattle.rast_terms.specs.declared.node.Node.TheVariants as node
@@ -23,21 +23,21 @@ use Rattle.rast_items.specs.Deeds.{Code, puts_chan, closes, less_channel, link_o
 use Rattle.rast_laws.specs.Typed.{FitsKind, IsToward}
 use Rattle.rast_laws.specs.Sound.{IsReady}
 use Rattle.rast_order.proofs.Words.{Link, Proc, Client, Chan, End}
-use Rattle.rast_laws.proofs.Equality.{some_of, equal_refl, equal_sym, part_across}
-use Rattle.rast_laws.proofs.Proper.{Proper, proper_part, proper_equal}
+use Rattle.rast_equal.proofs.Equals.{some_of, equal_refl, equal_sym, part_across}
+use Rattle.rast_equal.proofs.Proper.{Proper, proper_part, proper_equal}
 use Rattle.rast_laws.proofs.Channels.{HasLink, seen_link, seen_equal, seen_none}
 use Rattle.rast_laws.proofs.Fine.{Stands, CarriesAt}
 use Rattle.rast_laws.proofs.Lawful.{DeedFine}
-use Rattle.rast_laws.proofs.Judged.{AllAsked, IsTrueAsked, asked_left, asked_right}
+use Rattle.rast_laws.proofs.Judged.{IsTrueAsked, asked_left, asked_right}
 use Rattle.rast_laws.proofs.Meeting.{Meets, seen_now, followed}
 use Rattle.rast_laws.proofs.Placed.{one_of, head_scoped}
 use Rattle.rast_laws.proofs.Shapes.{pair_scoped}
 use Rattle.rast_laws.proofs.Sending.{Sends, stands_seen, sends_fine, toward_out}
 use Rattle.rast_laws.proofs.Standing.{Standing, meeting, child_of}
-use Rattle.rast_laws.proofs.Truths.{equal_true}
+use Rattle.rast_equal.proofs.Truths.{equal_true}
 use Rattle.rast_laws.proofs.Without.{seen_without}
 use Rattle.rast_laws.proofs.PuttingLabel.{stands_sent}
-use Rattle.rast_laws.proofs.Agreeing.{Fit}
+use Rattle.rast_equal.proofs.Agreeing.{Fit}
 use Rattle.rast_laws.proofs.Named.{judgement_named, named_defs, head_named, pair_named}
 use Rattle.rast_laws.proofs.Pulling.{find_drop, none_are_left}
 use Rattle.rast_laws.proofs.Knowing.{alike_equal, used_fit}

@@ -1,5 +1,5 @@
 -- The send of a label.
-use Rattle.std.proofs.Common.{◌≡◌, ℕ, ℤ, pos, ◌-◌, Bool, true, false, Option, Some, None, is_some, refl, sym, ap, ◌∙◌, subst, arith, if◌then◌else◌}
+use Rattle.std.proofs.Common.{◌≡◌, ℕ, ℤ, pos, ◌-◌, true, Option, Some, refl, sym, ap, ◌∙◌, subst, arith, if◌then◌else◌}
 use Rattle.std.specs.List.{list_all}
 use Rattle.std.proofs.lemmas.Bool.{le-leb}
 use Rattle.rast_index.specs.Keys.{find_key}
@@ -19,14 +19,14 @@ use Rattle.rast_items.specs.Items.{after_link}
 use Rattle.rast_items.specs.Deeds.{Code, puts, at_node, with_link}
 use Rattle.rast_laws.specs.Typed.{FitsKind}
 use Rattle.rast_order.proofs.Words.{Link, Proc, Label}
-use Rattle.rast_laws.proofs.Equality.{some_of, equal_refl}
+use Rattle.rast_equal.proofs.Equals.{some_of, equal_refl}
 use Rattle.rast_laws.proofs.Fine.{Stands}
 use Rattle.rast_laws.proofs.Lawful.{DeedFine}
 use Rattle.rast_laws.proofs.Placed.{one_of}
 use Rattle.rast_laws.proofs.Meeting.{Meets}
 use Rattle.rast_laws.proofs.Sending.{Seen, Sends, stands_seen, sends_fine, toward_out}
 use Rattle.rast_laws.proofs.Standing.{Standing, meeting, child_of, stands_on, seen_as}
-use Rattle.rast_laws.proofs.Taking.{link_values, link_fresh, link_moment, type_ctx, type_potential, type_fresh}
+use Rattle.rast_laws.proofs.Taking.{link_values, link_fresh, type_ctx, type_potential, type_fresh}
 use Rattle.rast_laws.proofs.Heads.{label_part}
 
 -- after a send without potential, where the channel's type alone changes

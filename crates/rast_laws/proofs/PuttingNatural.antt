@@ -1,5 +1,5 @@
 -- The send of a natural.
-use Rattle.std.proofs.Common.{◌≡◌, ℕ, ℤ, zero, suc, pos, ◌+◌, ◌≤◌, Bool, true, false, ◌==◌, List, [], ◌∷◌, ◌++◌, length, Option, Some, None, refl, sym, ap, ap₂, ◌∙◌, subst, arith, if◌then◌else◌, append-nil}
+use Rattle.std.proofs.Common.{◌≡◌, ℕ, ℤ, pos, ◌+◌, ◌≤◌, Bool, true, false, ◌==◌, List, [], ◌∷◌, ◌++◌, length, Option, Some, refl, sym, ap, ap₂, ◌∙◌, subst, arith, if◌then◌else◌, append-nil}
 use Rattle.std.proofs.lemmas.Bool.{le-leb}
 use Rattle.std.proofs.lemmas.List.{map-append}
 use Rattle.rast_index.specs.Keys.{find_key, set_key}
@@ -20,17 +20,16 @@ use Rattle.rast_items.specs.Items.{after_link}
 use Rattle.rast_items.specs.Deeds.{Code, at_values, first, with_values, puts, out}
 use Rattle.rast_laws.specs.Typed.{FitsKind, side_of}
 use Rattle.rast_order.proofs.Words.{Link, Proc, Nat}
-use Rattle.rast_laws.proofs.Equality.{equal_sym}
-use Rattle.rast_laws.proofs.Scopes.{all_within_append, variables_within, within_closed}
-use Rattle.rast_laws.proofs.Substitution.{values_of, put_equal}
+use Rattle.rast_equal.proofs.Equals.{equal_sym}
+use Rattle.rast_equal.proofs.Within.{all_within_append, variables_within, within_closed}
+use Rattle.rast_equal.proofs.Substitution.{values_of, put_equal}
 use Rattle.rast_laws.proofs.Lawful.{DeedFine}
 use Rattle.rast_laws.proofs.Judged.{Limited, AllShallow, uses_shallow, gives_shallow}
 use Rattle.rast_laws.proofs.Placed.{one_of}
-use Rattle.rast_laws.proofs.Truths.{nonneg_true}
+use Rattle.rast_equal.proofs.Truths.{nonneg_true}
 use Rattle.rast_laws.proofs.Meeting.{Meets, followed}
 use Rattle.rast_laws.proofs.Sending.{Sends, stands_seen, sends_fine, toward_out}
 use Rattle.rast_laws.proofs.Standing.{Standing, meeting, child_of, child_limits}
-use Rattle.rast_laws.proofs.Taking.{type_ctx}
 use Rattle.rast_laws.proofs.Heads.{ex_part, all_part}
 use Rattle.rast_laws.proofs.Widening.{values_variables}
 use Rattle.rast_laws.proofs.Naturals.{natural_fine}

@@ -1,5 +1,5 @@
 -- The send of the truth of a formula, and of potential.
-use Rattle.std.proofs.Common.{◌≡◌, ℕ, ℤ, pos, ◌-◌, ◌-ℤ◌, ◌≤◌, Bool, true, false, List, [], ◌∷◌, length, Option, Some, None, slice_get, refl, sym, ap, ap₂, ◌∙◌, subst, arith, if◌then◌else◌}
+use Rattle.std.proofs.Common.{◌≡◌, ℕ, ℤ, pos, ◌-◌, ◌-ℤ◌, ◌≤◌, true, List, [], ◌∷◌, length, Option, Some, refl, sym, ap, ap₂, ◌∙◌, subst, arith, if◌then◌else◌}
 use Rattle.std.specs.Prelude.{slice_index_or as get_or}
 use Rattle.std.specs.List.{list_all}
 use Rattle.std.proofs.lemmas.Int.{ints}
@@ -11,7 +11,7 @@ use Rattle.rast_index.proofs.Values.{value_less}
 use Rattle.rast_types.specs.declared.ty.Kind.{Kind}
 use Rattle.rast_types.specs.declared.ty.Kind.TheVariants as kind
 use Rattle.rast_types.specs.declared.ty.Ty.{Ty}
-use Rattle.rast_types.specs.Closed.{Closed, closed, Inner, part_of, kind_of, figure_of, View, head}
+use Rattle.rast_types.specs.Closed.{closed, Inner, part_of, kind_of, figure_of, View}
 use Rattle.rast_terms.specs.Nodes.{Touch}
 use Rattle.rast_terms.specs.declared.node.Node.{Node}
 use Rattle.rast_terms.specs.declared.node.Node.TheVariants as node
@@ -23,17 +23,17 @@ use Rattle.rast_items.specs.Deeds.{Code, at_values, first, with_values, puts, at
 use Rattle.rast_laws.specs.Sound.{IsReady}
 use Rattle.rast_laws.specs.Typed.{FitsKind, side_of}
 use Rattle.rast_order.proofs.Words.{Link, Proc, Assert, Pay}
-use Rattle.rast_laws.proofs.Equality.{equal_refl}
-use Rattle.rast_laws.proofs.Proper.{proper_figure}
-use Rattle.rast_laws.proofs.Substitution.{whole-length}
+use Rattle.rast_equal.proofs.Equals.{equal_refl}
+use Rattle.rast_equal.proofs.Proper.{proper_figure}
+use Rattle.rast_equal.proofs.Substitution.{whole-length}
 use Rattle.rast_laws.proofs.Fine.{Stands}
 use Rattle.rast_laws.proofs.Lawful.{DeedFine}
 use Rattle.rast_laws.proofs.Placed.{one_of}
-use Rattle.rast_laws.proofs.Truths.{at_least_true}
+use Rattle.rast_equal.proofs.Truths.{at_least_true}
 use Rattle.rast_laws.proofs.Meeting.{Meets, followed}
 use Rattle.rast_laws.proofs.Sending.{Seen, Sends, stands_seen, sends_fine, toward_out}
 use Rattle.rast_laws.proofs.Standing.{Standing, meeting, child_of, stands_on, seen_as}
-use Rattle.rast_laws.proofs.Taking.{link_values, link_fresh, link_moment, type_ctx, type_potential, type_fresh}
+use Rattle.rast_laws.proofs.Taking.{link_values, link_fresh, type_ctx, type_fresh}
 use Rattle.rast_laws.proofs.TakingTruth.{seen_potential}
 use Rattle.rast_laws.proofs.Naturals.{natural_fine}
 use Rattle.rast_laws.proofs.PuttingLabel.{stands_sent}

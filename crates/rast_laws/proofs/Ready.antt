@@ -1,5 +1,5 @@
 -- Each process of a program that may be run does what fits, and so every run of it is sound.
-use Rattle.std.proofs.Common.{◌≡◌, ℕ, Bool, false, List, Option, Some, slice_get, sym, subst}
+use Rattle.std.proofs.Common.{ℕ, false, List, Option, sym, subst}
 use Rattle.std.specs.Prelude.{slice_index_or as get_or}
 use Rattle.rast_index.specs.Linear.{nought}
 use Rattle.rast_types.specs.Closed.{View}

@@ -14,9 +14,9 @@ use Rattle.rast_items.specs.Items.{after_link}
 use Rattle.rast_items.specs.Deeds.{Code, Puts, Breaks, link_of, with_link, at_node, inward, out, msg_on, puts_at, puts}
 use Rattle.rast_laws.specs.Typed.{selected, part_by, view_some, next_view, FitsKind, IsToward, side_of}
 use Rattle.rast_order.proofs.Words.{Link, Proc, Side, Client, Provider, Body}
-use Rattle.rast_laws.proofs.Equality.{part_across, equal_refl, equal_sym, equal_trans}
+use Rattle.rast_equal.proofs.Equals.{part_across, equal_refl, equal_sym, equal_trans}
 use Rattle.rast_laws.proofs.Serving.{serves_equal}
-use Rattle.rast_laws.proofs.Proper.{Proper, proper_head, proper_part, proper_equal}
+use Rattle.rast_equal.proofs.Proper.{Proper, proper_head, proper_part, proper_equal}
 use Rattle.rast_laws.proofs.Channels.{SeenAt, AreSeen, seen_set}
 use Rattle.rast_laws.proofs.Fine.{Stands, ProcFine, GoesAt, Goes, MsgFine}
 use Rattle.rast_laws.proofs.Lawful.{Toward, DeedFine}

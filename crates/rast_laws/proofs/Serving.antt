@@ -2,11 +2,8 @@
 use Rattle.std.proofs.Common.{◌≡◌, ℕ, pos, ◌+ℤ◌, true, false, Some, sym, ◌∙◌, ap}
 use Rattle.rast_types.specs.declared.ty.Kind.{Kind}
 use Rattle.rast_types.specs.Closed.{Closed, Table, Equal, exposed, kind_of, is_positive, View, view, head, Serves, Suits}
-use Rattle.rast_laws.proofs.Equality.{HasKind, SameHeads, equal_trans, equal_heads, equal_ticks, equal_of_heads}
-
--- the head of a closed type has a kind
-abbrev pub HasHead : Table → Closed → Type 0
-HasHead t c = HasKind (exposed t c).head
+use Rattle.rast_equal.proofs.Equals.{SameHeads, equal_trans, equal_heads, equal_ticks, equal_of_heads, HasHead, same_heads}
+use Rattle.rast_equal.proofs.Proper.{Proper, proper_head}
 
 pub kind_across : (t : Table) (a b : Closed) (k : Kind) → Equal t a b → kind_of (exposed t a).head.ty ≡ Some k → kind_of (exposed t b).head.ty ≡ Some k
 kind_across t a b k e h = sym (equal_heads t a b e).kind ∙ h
@@ -41,3 +38,17 @@ suits_client t p c m k e f s u = sym s.arrivals ∙ u
 -- and a moment that suits the client suits the provider, at negative heads
 pub suits_provider : (t : Table) (p c : View) (m : ℕ) (k : Kind) → kind_of (head t p).ty ≡ Some k → is_positive k ≡ false → Serves t p c → Suits t c m → Suits t p m
 suits_provider t p c m k e f s u = s.arrivals ∙ u
+
+-- where one view serves another and both are well formed, their heads agree
+pub serves_same : (t : Table) (p c : View) → Proper t p.type → Proper t c.type → Serves t p c → SameHeads t (head t p) (head t c)
+serves_same t p c h k s =
+    let a = proper_head t p.type h in
+    let b = proper_head t c.type k in
+    same_heads t (head t p) (head t c) a.0 b.0 a.1 b.1 (serves_heads t p c s)
+
+-- equal types at one moment, in the place of one another
+pub serves_left : (t : Table) (m : ℕ) (a b : Closed) (c : View) → Equal t a b → HasHead t a → Serves t (view m b) c → Serves t (view m a) c
+serves_left t m a b c e h s = serves_trans t (view m a) (view m b) c (serves_equal t m a b e h) s
+
+pub serves_right : (t : Table) (m : ℕ) (a b : Closed) (p : View) → Equal t a b → HasHead t a → Serves t p (view m a) → Serves t p (view m b)
+serves_right t m a b p e h s = serves_trans t p (view m a) (view m b) s (serves_equal t m a b e h)

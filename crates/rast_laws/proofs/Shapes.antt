@@ -1,19 +1,16 @@
 -- The shape of judgements: channels in the order of their numbers, and types in scope.
-use Rattle.std.proofs.Common.{◌≡◌, ℕ, ◌+◌, ◌≤◌, ◌<◌, Bool, true, false, ◌==◌, List, [], ◌∷◌, ◌++◌, map, length, Option, Some, None, slice_get, refl, sym, ap, ◌∙◌, subst, arith, if◌then◌else◌, eqb-true, cond}
+use Rattle.std.proofs.Common.{◌≡◌, ℕ, ◌+◌, ◌≤◌, ◌<◌, Bool, true, false, ◌==◌, List, [], ◌∷◌, ◌++◌, map, length, Option, Some, None, refl, sym, ap, ◌∙◌, subst, arith, if◌then◌else◌, eqb-true, cond}
 use Rattle.std.specs.Prelude.{filter}
 use Rattle.std.specs.List.{list_all}
 use Rattle.rast_index.specs.Keys.{find_key, set_key, numbered}
-use Rattle.rast_index.specs.Linear.{Linear, is_closed}
 use Rattle.rast_index.proofs.Scope.{both_true}
 use Rattle.rast_types.specs.declared.ty.Ty.{Ty, out-Ty}
-use Rattle.rast_types.specs.declared.ty.Ty.TheOpen.{Plus, With, Tensor, Lolli, Named, Next}
+use Rattle.rast_types.specs.declared.ty.Ty.TheOpen.{Plus, With, Tensor, Lolli}
 use Rattle.rast_types.specs.declared.ty.Ty.TheVariants as ty
-use Rattle.rast_types.specs.Closed.{Table, Layer}
-use Rattle.rast_types.specs.Symbolic.{is_scoped, opened, opened_layer, body_at, timed, timed_layer, exposed_type}
-use Rattle.rast_types.specs.declared.table.TypeDef.{TypeDef}
+use Rattle.rast_types.specs.Closed.{Layer}
+use Rattle.rast_types.specs.Symbolic.{is_scoped}
 use Rattle.rast_rules.specs.Rules.{or_one, choices_of, choices_layer, pair_layer, first_of_pair, second_of_pair, first_or, second_or}
-use Rattle.rast_laws.proofs.Scopes.{AllWithin, all_within}
-use Rattle.rast_laws.proofs.Scoped.{scoped_out, scoped_layer, scoped_put}
+use Rattle.rast_equal.proofs.Scoped.{scoped_out, scoped_layer}
 
 -- ---- channels in order
 
@@ -102,26 +99,6 @@ scoped_map n m f (u ∷ us) h s = (h u.1 s.0, scoped_map n m f us h s.1)
 pub scoped_numbered : (n k : ℕ) (as' : List Ty) → list_all (is_scoped n) as' ≡ true → AllScoped n (numbered k as')
 scoped_numbered n k [] h = tt
 scoped_numbered n k (a ∷ as') h = let r = both_true (is_scoped n a) (list_all (is_scoped n) as') h in (r.0, scoped_numbered n (k + 1) as' r.1)
-
--- ---- what is exposed is in scope
-
-body_scoped : (n : ℕ) (a : Ty) (o : Option TypeDef) (es : List Linear) → AllWithin n es → is_scoped n a ≡ true → is_scoped n (body_at n a o es) ≡ true
-body_scoped n a None es h s = s
-body_scoped n a (Some d) es h s = scoped_put n es d.body h
-
-opened_scoped_layer : (t : Table) (n : ℕ) (a : Ty) (x : Layer) → out-Ty a ≡ x → is_scoped n a ≡ true → is_scoped n (opened_layer t n a x) ≡ true
-opened_scoped_layer t n a (Named k es) o s = body_scoped n a (slice_get t k) es (all_within n es (ap (scoped_layer n) (sym o) ∙ (sym (scoped_out n a) ∙ s))) s
-opened_scoped_layer t n a x o s = s
-
-pub opened_scoped : (t : Table) (n : ℕ) (a : Ty) → is_scoped n a ≡ true → is_scoped n (opened t n a) ≡ true
-opened_scoped t n a s = opened_scoped_layer t n a (out-Ty a) refl s
-
-timed_scoped : (n : ℕ) (a : Ty) (x : Layer) → out-Ty a ≡ x → is_scoped n a ≡ true → is_scoped n (timed_layer a x).body ≡ true
-timed_scoped n a (Next l b) o s = (both_true (is_closed n l) (is_scoped n b) (ap (scoped_layer n) (sym o) ∙ (sym (scoped_out n a) ∙ s))).1
-timed_scoped n a x o s = s
-
-pub exposed_scoped : (t : Table) (n : ℕ) (a : Ty) → is_scoped n a ≡ true → is_scoped n (exposed_type t n a).body ≡ true
-exposed_scoped t n a s = opened_scoped t n (timed (opened t n a)).body (timed_scoped n (opened t n a) (out-Ty (opened t n a)) refl (opened_scoped t n a s))
 
 -- ---- parts of a head
 

@@ -1,16 +1,11 @@
 -- All that is known of a process that stands at a node of a program that may be run.
-use Rattle.std.proofs.Common.{◌≡◌, ℕ, pos, Bool, true, false, not, Option, Some, slice_get, refl, sym, ap, ◌∙◌, subst, subst₂, length, if◌then◌else◌}
-use Rattle.std.specs.List.{list_all, All, AllByRecursion}
-use Rattle.std.proofs.lemmas.List.Elements.{recursion_from_All}
+use Rattle.std.proofs.Common.{◌≡◌, ℕ, pos, true, Option, Some, slice_get, sym, ap, ◌∙◌, subst, subst₂, length, if◌then◌else◌}
+use Rattle.std.specs.List.{list_all, AllByRecursion}
 use Rattle.rast_index.specs.Linear.{value, whole}
 use Rattle.rast_index.specs.Truth.{truth}
-use Rattle.rast_types.specs.declared.table.TypeDef.{TypeDef}
-use Rattle.rast_types.specs.declared.ty.Ty.{Ty}
-use Rattle.rast_types.specs.Closed.{Table, View, closed}
-use Rattle.rast_types.specs.Symbolic.{is_name}
-use Rattle.rast_equal.specs.Valid.{IsTrueClaim, IsValidTable, def_claims}
+use Rattle.rast_types.specs.Closed.{View, closed}
 use Rattle.rast_terms.specs.Nodes.{Touch, touches, kids}
-use Rattle.rast_laws.specs.WellMade.{IsWellMade, IsMadeNode}
+use Rattle.rast_made.specs.WellMade.{IsWellMade, IsMadeNode}
 use Rattle.rast_terms.specs.declared.node.Node.{Node}
 use Rattle.rast_terms.specs.declared.program.Program.{Program}
 use Rattle.rast_rules.specs.declared.judgement.Judgement.{Judgement}
@@ -20,26 +15,14 @@ use Rattle.rast_laws.specs.Sound.{IsReady}
 use Rattle.rast_order.proofs.Words.{Link, Proc, Provider}
 use Rattle.rast_laws.proofs.Channels.{SeenAt, AreSeen}
 use Rattle.rast_laws.proofs.Fine.{Stands, ProcFine}
-use Rattle.rast_laws.proofs.Exposing.{Unnamed}
+use Rattle.rast_equal.proofs.Exposing.{Unnamed}
 use Rattle.rast_laws.proofs.Judged.{AllAsked, Limited, Judged, judged, judged_limited, child_judged}
 use Rattle.rast_laws.proofs.Asking.{touches_asked}
-use Rattle.rast_laws.proofs.Placed.{Shape, Placed, placed, node_made, touching, every_get}
+use Rattle.rast_laws.proofs.Placed.{Shape, Placed, placed, node_made, touching}
 use Rattle.rast_laws.proofs.Bounded.{Bounded, bounded}
 use Rattle.rast_laws.proofs.Meeting.{Meets, meets}
 use Rattle.rast_laws.proofs.Sending.{Seen}
-
--- no definition of a valid table stands for a name
-unnamed_defs : (t u : Table) (k : ℕ) (d : TypeDef) → AllByRecursion (λ e. All IsTrueClaim (def_claims t e)) u → slice_get u k ≡ Some d → is_name d.body ≡ false
-unnamed_defs t u k d h e =
-    let r : AllByRecursion IsTrueClaim (def_claims t d) = recursion_from_All IsTrueClaim (def_claims t d) (every_get (λ e. All IsTrueClaim (def_claims t e)) u k d h e) in
-    flipped (is_name d.body) r.0
-  where
-    flipped : (b : Bool) → not b ≡ true → b ≡ false
-    flipped true h = cc
-    flipped false h = refl
-
-pub table_unnamed : (t : Table) → IsValidTable t → Unnamed t
-table_unnamed t v = λ k d e. unnamed_defs t t k d (recursion_from_All (λ e. All IsTrueClaim (def_claims t e)) t v) e
+use Rattle.rast_equal.proofs.WellFormed.{table_unnamed}
 
 pub record Standing (g : Program) (d : Link → Option View) (p : Proc) (j : Judgement) (nd : Node) : Type 0 where
   pub is : slice_get g.nodes p.node ≡ Some nd

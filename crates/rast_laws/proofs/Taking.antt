@@ -1,10 +1,10 @@
 -- A take of a message that fits, on a channel of a process that stands at its node.
-use Rattle.std.proofs.Common.{◌≡◌, ℕ, zero, suc, ◌+◌, ◌≤◌, max, Bool, true, false, List, Option, Some, None, slice_get, refl, sym, ap, ◌∙◌, subst, subst₂, arith, if◌then◌else◌}
+use Rattle.std.proofs.Common.{◌≡◌, ℕ, zero, suc, ◌≤◌, max, Bool, true, false, Option, Some, slice_get, refl, sym, ap, ◌∙◌, subst, subst₂, if◌then◌else◌}
 use Rattle.rast_index.specs.Keys.{set_key}
 use Rattle.rast_index.specs.Linear.{whole}
 use Rattle.rast_types.specs.declared.ty.Kind.{Kind}
 use Rattle.rast_types.specs.declared.ty.Ty.{Ty}
-use Rattle.rast_types.specs.Closed.{Closed, closed, Table, Way, part_of, kind_of, figure_of, Equal, View, view, head, Suits}
+use Rattle.rast_types.specs.Closed.{Closed, closed, Table, Way, part_of, kind_of, figure_of, View, head, Suits}
 use Rattle.rast_terms.specs.Nodes.{Touch, touches}
 use Rattle.rast_terms.specs.declared.node.Node.{Node}
 use Rattle.rast_terms.specs.declared.program.Program.{Program}
@@ -12,15 +12,14 @@ use Rattle.rast_rules.specs.declared.judgement.Judgement.{Judgement}
 use Rattle.rast_rules.specs.Rules.{defs, is_provided, with_type, head_at}
 use Rattle.rast_items.specs.Deeds.{Code, Takes, takes, takes_at, link_of, with_link, with_message, took, took_on, taken_at, after_take, inward}
 use Rattle.rast_laws.specs.Typed.{FitsKind, side_of}
-use Rattle.rast_order.proofs.Words.{Link, Proc, Msg, Side, Client, Provider, Body}
-use Rattle.rast_laws.proofs.Equality.{some_same, part_across, heads_sym, equal_sym}
-use Rattle.rast_laws.proofs.Proper.{Proper}
+use Rattle.rast_order.proofs.Words.{Link, Proc, Msg, Body}
+use Rattle.rast_equal.proofs.Equals.{some_same, part_across, heads_sym}
 use Rattle.rast_laws.proofs.Channels.{SeenAt, seen_equal}
 use Rattle.rast_laws.proofs.Fine.{Stands, ProcFine, GoesAt, Goes, MsgFine}
-use Rattle.rast_laws.proofs.Lawful.{Toward, TakesFine, DeedFine}
+use Rattle.rast_laws.proofs.Lawful.{DeedFine}
 use Rattle.rast_laws.proofs.Meeting.{Meets, seen_later, seen_taken, seen_moment}
-use Rattle.rast_laws.proofs.Sending.{Seen, stands_seen, seen_with, toward_in, toward_at}
-use Rattle.rast_laws.proofs.Standing.{Standing, meeting, seen_as}
+use Rattle.rast_laws.proofs.Sending.{Seen, stands_seen, seen_with, toward_at}
+use Rattle.rast_laws.proofs.Standing.{seen_as}
 
 -- ---- a process whose channel is at another link
 

@@ -1,5 +1,5 @@
 -- The take of a label.
-use Rattle.std.proofs.Common.{◌≡◌, ℕ, ℤ, zero, suc, pos, ◌+◌, max, Bool, true, false, ◌==◌, List, [], ◌∷◌, map, Option, Some, None, is_some, slice_get, refl, sym, ap, ◌∙◌, subst, arith, if◌then◌else◌, eqb-true}
+use Rattle.std.proofs.Common.{◌≡◌, ℕ, ℤ, suc, pos, ◌+◌, max, Bool, true, false, ◌==◌, List, [], ◌∷◌, map, Option, Some, is_some, slice_get, refl, sym, ap, ◌∙◌, subst, arith, if◌then◌else◌, eqb-true}
 use Rattle.std.specs.List.{list_all}
 use Rattle.rast_index.specs.Keys.{find_key}
 use Rattle.rast_index.specs.Linear.{value, whole}
@@ -8,7 +8,7 @@ use Rattle.rast_types.specs.declared.ty.Kind.{Kind}
 use Rattle.rast_types.specs.declared.ty.Kind.TheVariants as kind
 use Rattle.rast_types.specs.declared.ty.Ty.{Ty}
 use Rattle.rast_types.specs.Closed.{closed, Way, Label as ByLabel, figure_of, View}
-use Rattle.rast_terms.specs.Nodes.{Touch, touch}
+use Rattle.rast_terms.specs.Nodes.{Touch}
 use Rattle.rast_terms.specs.declared.node.Node.{Node}
 use Rattle.rast_terms.specs.declared.node.Node.TheVariants as node
 use Rattle.rast_terms.specs.declared.program.Program.{Program}
@@ -17,7 +17,7 @@ use Rattle.rast_rules.specs.Rules.{defs, is_provided, with_type, or_one, choices
 use Rattle.rast_items.specs.Deeds.{Code, takes, at_node, with_message, at_branch, took, after_take}
 use Rattle.rast_laws.specs.Typed.{FitsKind}
 use Rattle.rast_order.proofs.Words.{Link, Proc, Msg, Body, Label}
-use Rattle.rast_laws.proofs.Equality.{some_of}
+use Rattle.rast_equal.proofs.Equals.{some_of}
 use Rattle.rast_laws.proofs.Fine.{Stands, ProcFine, GoesAt, Goes}
 use Rattle.rast_laws.proofs.Lawful.{DeedFine}
 use Rattle.rast_laws.proofs.Judged.{AllAsked, asked_right}
@@ -25,7 +25,7 @@ use Rattle.rast_laws.proofs.Placed.{one_of}
 use Rattle.rast_laws.proofs.Meeting.{Meets}
 use Rattle.rast_laws.proofs.Sending.{toward_in}
 use Rattle.rast_laws.proofs.Standing.{Standing, meeting, child_of, stands_on, seen_as}
-use Rattle.rast_laws.proofs.Taking.{Brings, Arrives, arrives, taken_seen, takes_fine, leaves_at, link_values, link_fresh, type_ctx, type_potential, type_fresh}
+use Rattle.rast_laws.proofs.Taking.{Arrives, arrives, taken_seen, takes_fine, leaves_at, link_values, link_fresh, type_ctx, type_potential, type_fresh}
 use Rattle.rast_laws.proofs.Heads.{part_label}
 use Rattle.rast_laws.proofs.Bodies.{BringsLabel, plus_fits, with_fits}
 

@@ -1,33 +1,31 @@
 -- The take of a channel, and of the end.
-use Rattle.std.proofs.Common.{◌≡◌, ℕ, ℤ, zero, suc, pos, ◌+◌, ◌≤◌, max, Bool, true, false, List, [], ◌∷◌, ◌++◌, length, Option, Some, None, slice_get, refl, sym, ap, ◌∙◌, subst, subst₂, arith, if◌then◌else◌, length-append, lt-ltb}
-use Rattle.std.specs.Prelude.{nat_lt}
+use Rattle.std.proofs.Common.{◌≡◌, ℕ, ℤ, zero, suc, pos, ◌+◌, max, Bool, true, false, [], ◌∷◌, ◌++◌, length, Option, Some, None, refl, sym, ap, ◌∙◌, subst, subst₂, arith, if◌then◌else◌, length-append, lt-ltb}
 use Rattle.std.specs.List.{list_all}
-use Rattle.rast_index.specs.Keys.{set_key, drop_key}
 use Rattle.rast_index.specs.Linear.{value, whole}
 use Rattle.rast_index.specs.Truth.{truth}
 use Rattle.rast_types.specs.declared.ty.Kind.{Kind}
 use Rattle.rast_types.specs.declared.ty.Kind.TheVariants as kind
 use Rattle.rast_types.specs.declared.ty.Ty.{Ty}
-use Rattle.rast_types.specs.Closed.{Closed, closed, Table, First, Second, part_of, figure_of, View, head}
+use Rattle.rast_types.specs.Closed.{Closed, closed, Table, First, Second, figure_of, View, head}
 use Rattle.rast_terms.specs.Nodes.{Touch}
 use Rattle.rast_terms.specs.declared.node.Node.{Node}
 use Rattle.rast_terms.specs.declared.node.Node.TheVariants as node
 use Rattle.rast_terms.specs.declared.program.Program.{Program}
 use Rattle.rast_rules.specs.declared.judgement.Judgement.{Judgement}
 use Rattle.rast_rules.specs.Rules.{defs, is_provided, with_type, with_channel, without, first_of_pair, second_of_pair, head_at, IsJudgement}
-use Rattle.rast_items.specs.Deeds.{Code, takes, at_node, with_message, with_link, with_channel as more_channel, less_channel, has_room, took, after_take, inward}
+use Rattle.rast_items.specs.Deeds.{Code, takes, at_node, with_message, with_channel as more_channel, less_channel, has_room, took, after_take}
 use Rattle.rast_laws.specs.Typed.{FitsKind, side_of}
-use Rattle.rast_order.proofs.Words.{Link, Proc, Msg, Side, Client, Provider, Body, Chan, End}
-use Rattle.rast_laws.proofs.Equality.{part_across, heads_sym}
+use Rattle.rast_order.proofs.Words.{Link, Proc, Msg, Client, Body, Chan, End}
+use Rattle.rast_equal.proofs.Equals.{part_across, heads_sym}
 use Rattle.rast_laws.proofs.Channels.{SeenAt, AreSeen, seen_equal, seen_more}
-use Rattle.rast_laws.proofs.Fine.{Stands, ProcFine, GoesAt, CarriesAt, Goes}
+use Rattle.rast_laws.proofs.Fine.{ProcFine, GoesAt, CarriesAt, Goes}
 use Rattle.rast_laws.proofs.Lawful.{DeedFine}
 use Rattle.rast_laws.proofs.Judged.{Limited}
 use Rattle.rast_laws.proofs.Placed.{one_of}
-use Rattle.rast_laws.proofs.Meeting.{Meets, provided_is, provided_suc}
-use Rattle.rast_laws.proofs.Sending.{Seen, stands_seen, toward_in}
+use Rattle.rast_laws.proofs.Meeting.{Meets, provided_is}
+use Rattle.rast_laws.proofs.Sending.{Seen, toward_in}
 use Rattle.rast_laws.proofs.Standing.{Standing, meeting, child_of, child_limits, stands_on, seen_as}
-use Rattle.rast_laws.proofs.Taking.{Brings, Arrives, arrives, taken_seen, takes_fine, leaves_at, link_values, link_fresh, type_ctx, type_potential, type_fresh}
+use Rattle.rast_laws.proofs.Taking.{Arrives, arrives, taken_seen, takes_fine, leaves_at, link_values, link_fresh, type_ctx, type_potential, type_fresh}
 use Rattle.rast_laws.proofs.Heads.{part_first, part_second}
 use Rattle.rast_laws.proofs.Bodies.{BringsChan, tensor_fits, lolli_fits, one_fits}
 use Rattle.rast_laws.proofs.Without.{seen_without, drop_set, seen_length}

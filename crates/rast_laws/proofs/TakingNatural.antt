@@ -1,5 +1,5 @@
 -- The take of a natural.
-use Rattle.std.proofs.Common.{◌≡◌, ℕ, ℤ, zero, suc, pos, ◌+◌, ◌≤◌, ◌<◌, max, Bool, true, false, List, [], ◌∷◌, ◌++◌, map, length, Option, Some, None, slice_get, refl, sym, ap, ◌∙◌, subst, subst₂, arith, if◌then◌else◌, length-append, lt-ltb}
+use Rattle.std.proofs.Common.{◌≡◌, ℕ, ℤ, zero, suc, pos, ◌+◌, ◌≤◌, max, Bool, true, false, List, [], ◌∷◌, ◌++◌, length, Option, Some, None, refl, sym, ap, ◌∙◌, subst, subst₂, arith, if◌then◌else◌, length-append, lt-ltb}
 use Rattle.std.specs.Prelude.{nat_lt}
 use Rattle.std.specs.List.{list_all}
 use Rattle.rast_index.specs.Keys.{set_key}
@@ -8,30 +8,29 @@ use Rattle.rast_index.specs.Truth.{truth}
 use Rattle.rast_types.specs.declared.ty.Kind.{Kind}
 use Rattle.rast_types.specs.declared.ty.Kind.TheVariants as kind
 use Rattle.rast_types.specs.declared.ty.Ty.{Ty}
-use Rattle.rast_types.specs.Closed.{Closed, closed, At, part_of, figure_of, View}
-use Rattle.rast_types.specs.Symbolic.{binders}
+use Rattle.rast_types.specs.Closed.{Closed, closed, At, figure_of, View}
 use Rattle.rast_terms.specs.Nodes.{Touch}
 use Rattle.rast_terms.specs.declared.node.Node.{Node}
 use Rattle.rast_terms.specs.declared.node.Node.TheVariants as node
 use Rattle.rast_terms.specs.declared.program.Program.{Program}
 use Rattle.rast_rules.specs.declared.judgement.Judgement.{Judgement}
-use Rattle.rast_rules.specs.Rules.{defs, is_provided, with_type, with_variable, widened, inner_of, head_at, IsJudgement}
+use Rattle.rast_rules.specs.Rules.{defs, is_provided, with_type, with_variable, inner_of, head_at, IsJudgement}
 use Rattle.rast_items.specs.Deeds.{Code, takes, at_node, with_message, with_link, took, after_take, inward}
 use Rattle.rast_laws.specs.Typed.{FitsKind}
-use Rattle.rast_order.proofs.Words.{Link, Proc, Msg, Side, Client, Provider, Body, Nat}
-use Rattle.rast_laws.proofs.Substitution.{whole-append, whole-length}
-use Rattle.rast_laws.proofs.Scopes.{Within, value_within}
-use Rattle.rast_laws.proofs.Channels.{SeenAt, AreSeen}
+use Rattle.rast_order.proofs.Words.{Link, Proc, Msg, Side, Provider, Body, Nat}
+use Rattle.rast_equal.proofs.Substitution.{whole-append, whole-length}
+use Rattle.rast_equal.proofs.Within.{Within, value_within}
+use Rattle.rast_laws.proofs.Channels.{SeenAt}
 use Rattle.rast_laws.proofs.Fine.{Stands, ProcFine, GoesAt, Goes}
 use Rattle.rast_laws.proofs.Lawful.{DeedFine}
-use Rattle.rast_laws.proofs.Judged.{Limited, AllShallow, uses_shallow, gives_shallow}
+use Rattle.rast_laws.proofs.Judged.{Limited, uses_shallow, gives_shallow}
 use Rattle.rast_laws.proofs.Placed.{one_of}
-use Rattle.rast_laws.proofs.Steady.{true_still}
+use Rattle.rast_equal.proofs.Steady.{true_still}
 use Rattle.rast_laws.proofs.Bounded.{Bounded}
 use Rattle.rast_laws.proofs.Meeting.{Meets, provided_is, provided_suc}
-use Rattle.rast_laws.proofs.Sending.{Seen, stands_seen, toward_in}
+use Rattle.rast_laws.proofs.Sending.{Seen, toward_in}
 use Rattle.rast_laws.proofs.Standing.{Standing, meeting, child_of, child_limits, seen_as}
-use Rattle.rast_laws.proofs.Taking.{Brings, Arrives, arrives, takes_fine, leaves_at, link_values, link_fresh, link_moment, type_ctx, type_potential, type_fresh}
+use Rattle.rast_laws.proofs.Taking.{Arrives, arrives, takes_fine, leaves_at, link_values, link_fresh, link_moment, type_ctx, type_potential, type_fresh}
 use Rattle.rast_laws.proofs.Heads.{part_at}
 use Rattle.rast_laws.proofs.Bodies.{BringsNat, ex_fits, all_fits}
 use Rattle.rast_laws.proofs.Widening.{widened_seen, widened_all, widened_but}

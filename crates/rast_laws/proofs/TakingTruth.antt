@@ -1,5 +1,5 @@
 -- The take of the truth of a formula, and of potential.
-use Rattle.std.proofs.Common.{◌≡◌, ℕ, ℤ, zero, suc, pos, ◌+◌, ◌+ℤ◌, ◌≤◌, max, Bool, true, false, ◌&&◌, List, [], ◌∷◌, ◌++◌, length, Option, Some, None, slice_get, refl, sym, ap, ap₂, ◌∙◌, subst, subst₂, arith, if◌then◌else◌}
+use Rattle.std.proofs.Common.{◌≡◌, ℕ, ℤ, pos, ◌+◌, ◌+ℤ◌, ◌≤◌, max, Bool, true, ◌&&◌, List, [], ◌∷◌, ◌++◌, length, Option, Some, refl, sym, ap, ap₂, ◌∙◌, subst, arith, if◌then◌else◌}
 use Rattle.std.specs.List.{list_all}
 use Rattle.std.proofs.lemmas.Int.{ints}
 use Rattle.std.proofs.lemmas.List.Folds.{list_all-append}
@@ -20,14 +20,14 @@ use Rattle.rast_rules.specs.Rules.{defs, is_provided, with_type, with_premise, w
 use Rattle.rast_items.specs.Deeds.{Code, takes, at_node, with_message, took, after_take}
 use Rattle.rast_laws.specs.Typed.{FitsKind}
 use Rattle.rast_order.proofs.Words.{Link, Proc, Msg, Body, Assert, Pay}
-use Rattle.rast_laws.proofs.Substitution.{whole-length}
-use Rattle.rast_laws.proofs.Fine.{Stands, ProcFine, GoesAt, Goes}
+use Rattle.rast_equal.proofs.Substitution.{whole-length}
+use Rattle.rast_laws.proofs.Fine.{ProcFine, GoesAt, Goes}
 use Rattle.rast_laws.proofs.Lawful.{DeedFine}
 use Rattle.rast_laws.proofs.Placed.{one_of}
 use Rattle.rast_laws.proofs.Meeting.{Meets}
 use Rattle.rast_laws.proofs.Sending.{Seen, toward_in}
 use Rattle.rast_laws.proofs.Standing.{Standing, meeting, child_of, stands_on, seen_as}
-use Rattle.rast_laws.proofs.Taking.{Brings, Arrives, arrives, taken_seen, takes_fine, leaves_at, link_values, link_fresh, type_ctx, type_potential, type_fresh}
+use Rattle.rast_laws.proofs.Taking.{Arrives, arrives, taken_seen, takes_fine, leaves_at, link_values, link_fresh, type_ctx, type_potential, type_fresh}
 use Rattle.rast_laws.proofs.Heads.{part_inner, assert_true, assume_true, pays_value, gets_value}
 use Rattle.rast_laws.proofs.Bodies.{assert_fits, assume_fits, pays_fits, gets_fits}
 

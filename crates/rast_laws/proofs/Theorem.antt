@@ -6,7 +6,7 @@ use Rattle.rast_items.specs.Items.{held}
 use Rattle.rast_items.specs.Deeds.{Code}
 use Rattle.rast_items.specs.Run.{State, IsRun, IsRunFrom, start_of, state_after, pid_of, born, ArePidsApart, work, sent_at, taken_at}
 use Rattle.rast_laws.specs.Typed.{due}
-use Rattle.rast_laws.specs.Ends.{IsPoised, AreIdle, IsFinished}
+use Rattle.rast_items.specs.Ends.{IsPoised, AreIdle, IsFinished}
 use Rattle.rast_laws.specs.Sound.{IsSound}
 use Rattle.rast_order.proofs.Words.{Item, Event}
 use Rattle.rast_order.proofs.View.{StepView, step_view}
@@ -20,6 +20,7 @@ use Rattle.rast_laws.proofs.Balance.{step_sum}
 use Rattle.rast_laws.proofs.Fitting.{AllSent, all_stay, all_more, step_sent, sends_typed}
 use Rattle.rast_laws.proofs.Progress.{ArePoised, progress}
 use Rattle.rast_laws.proofs.Unstuck.{quiet_of, unstuck}
+use Rattle.rast_laws.proofs.Halting.{halts_great}
 
 -- main's process fits at the beginning
 abbrev pub MainLaw : Code → Type 0
@@ -81,5 +82,6 @@ sound_of c law main es st r =
       moments = k.whole.sound.queue.prefixes;
       potential = λ begin b. k.balance ∙ ap (λ x. held x.items) (let z : Some r.0 ≡ Some begin = sym r.1 ∙ b in let y : r.0 ≡ begin = cc in y);
       unstuck = λ pid q. unstuck c law (due c.program es st.births) (length st.births) st.items pid k.whole.fine q;
+      halted = λ pid v h. halts_great c (length st.births) pid st.items v h;
       progress = known_finishes c law r.0 es st k;
     }

@@ -4,7 +4,7 @@ use Rattle.rast_types.specs.Closed.{View}
 use Rattle.rast_items.specs.Deeds.{Code, Deed, Puts, Takes, Moves, Makes, Turns, Works, Delays, Halts, Breaks, deed}
 use Rattle.rast_items.specs.Step.{Ready, Stuck, Cut, cut, is_proc, is_msg, does, take_client, take_provider, move_it, move_client, move_provider, at_cut, at_item, step}
 use Rattle.rast_items.specs.Run.{State, ArePidsApart, step_of}
-use Rattle.rast_laws.specs.Ends.{IsIdle, AreIdle}
+use Rattle.rast_items.specs.Ends.{IsIdle, AreIdle}
 use Rattle.rast_order.proofs.Words.{Link, Pid, Item, P, M, Proc, Msg, Side, Client, Provider}
 use Rattle.rast_order.proofs.View.{cut_is}
 use Rattle.rast_order.proofs.Pids.{named, named-append, is_of}

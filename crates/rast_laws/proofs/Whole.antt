@@ -14,7 +14,7 @@ use Rattle.rast_order.proofs.Deeds.{PutSound, DeedSound, deed_sound}
 use Rattle.rast_order.proofs.Received.{took_over}
 use Rattle.rast_order.proofs.Queue.{mark, put_at_end}
 use Rattle.rast_order.proofs.Sound.{Sound, put_on}
-use Rattle.rast_laws.proofs.Equality.{some_same}
+use Rattle.rast_equal.proofs.Equals.{some_same}
 use Rattle.rast_laws.proofs.Fine.{ProcFine, MsgFine, AllFine, fine_left, fine_right, fine_append, fine_dues}
 use Rattle.rast_laws.proofs.Dues.{Settled, due_stays, due_sent}
 use Rattle.rast_laws.proofs.Lawful.{PutLeaves, TakesFine, DeedFine, DeedLaw}

@@ -1,7 +1,7 @@
 -- One more variable with its value: types and channels stay what they are.
-use Rattle.std.proofs.Common.{◌≡◌, ℕ, ℤ, zero, suc, pos, ◌+◌, ◌≤◌, ◌<◌, Bool, true, false, ◌==◌, List, [], ◌∷◌, ◌++◌, map, length, get_or, Option, refl, sym, ap, ap₂, ◌∙◌, subst, arith, if◌then◌else◌, length-append}
+use Rattle.std.proofs.Common.{◌≡◌, ℕ, ℤ, zero, suc, pos, ◌+◌, ◌≤◌, Bool, true, false, ◌==◌, List, [], ◌∷◌, ◌++◌, map, length, get_or, Option, refl, sym, ap, ap₂, ◌∙◌, subst, arith, if◌then◌else◌, length-append}
 use Rattle.rast_index.specs.Keys.{set_key}
-use Rattle.rast_index.specs.Linear.{Linear, value, whole, variable, variables, tabulate}
+use Rattle.rast_index.specs.Linear.{value, whole, variable, variables, tabulate}
 use Rattle.rast_index.proofs.Scope.{value_variable}
 use Rattle.rast_index.proofs.Values.{tabulate_suc}
 use Rattle.rast_types.specs.declared.ty.Ty.{Ty}
@@ -9,10 +9,10 @@ use Rattle.rast_types.specs.Closed.{closed, Table, Equal, View}
 use Rattle.rast_types.specs.Symbolic.{binders}
 use Rattle.rast_rules.specs.Rules.{widened}
 use Rattle.rast_order.proofs.Words.{Link, Side, Client}
-use Rattle.rast_laws.proofs.Equality.{equal_sym}
+use Rattle.rast_equal.proofs.Equals.{equal_sym}
 use Rattle.rast_laws.proofs.Channels.{SeenAt, AreSeen, seen_equal}
-use Rattle.rast_laws.proofs.Scopes.{variables_within}
-use Rattle.rast_laws.proofs.Substitution.{values_of, whole-append, whole-length, put_equal}
+use Rattle.rast_equal.proofs.Within.{variables_within}
+use Rattle.rast_equal.proofs.Substitution.{values_of, whole-append, whole-length, put_equal}
 use Rattle.rast_laws.proofs.Judged.{AllShallow}
 
 -- ---- the values of the variables themselves

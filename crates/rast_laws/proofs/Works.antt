@@ -1,5 +1,5 @@
 -- Spending potential, and the end that no process comes to.
-use Rattle.std.proofs.Common.{◌≡◌, ℕ, ℤ, pos, ◌-ℤ◌, ◌-◌, ◌≤◌, Bool, true, false, [], ◌∷◌, length, Option, Some, refl, sym, ap, ◌∙◌, subst, arith, if◌then◌else◌}
+use Rattle.std.proofs.Common.{◌≡◌, ℕ, pos, ◌-ℤ◌, ◌-◌, ◌≤◌, Bool, true, false, length, Option, refl, sym, ap, ◌∙◌, subst, arith, if◌then◌else◌}
 use Rattle.std.specs.Prelude.{nat_le}
 use Rattle.std.proofs.lemmas.Bool.{le-leb}
 use Rattle.std.proofs.lemmas.Int.{ints}
@@ -17,8 +17,8 @@ use Rattle.rast_order.proofs.Words.{Link, Proc}
 use Rattle.rast_laws.proofs.Fine.{Stands, ProcFine}
 use Rattle.rast_laws.proofs.Lawful.{DeedFine}
 use Rattle.rast_laws.proofs.Meeting.{followed}
-use Rattle.rast_laws.proofs.Substitution.{whole-length}
-use Rattle.rast_laws.proofs.Truths.{truth_false, at_least_true, nonneg_true}
+use Rattle.rast_equal.proofs.Substitution.{whole-length}
+use Rattle.rast_equal.proofs.Truths.{truth_false, at_least_true, nonneg_true}
 use Rattle.rast_laws.proofs.Standing.{Standing, child_of}
 use Rattle.rast_laws.proofs.Naturals.{natural_fine}
 

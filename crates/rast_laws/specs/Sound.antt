@@ -1,15 +1,15 @@
 -- What holds after every run of an accepted program.
-use Rattle.std.specs.Prelude.{◌≡◌, ◌+◌, List, ◌++◌, Some, IsSome, All}
+use Rattle.std.specs.Prelude.{◌≡◌, ℕ, ◌+◌, ◌^◌, ◌≤◌, List, ◌++◌, Some, IsSome, All}
 use Rattle.rast_rules.specs.Rules.{IsAccepted, IsPlan}
-use Rattle.rast_laws.specs.WellMade.{IsWellMade}
+use Rattle.rast_made.specs.WellMade.{IsWellMade}
 use Rattle.rast_items.specs.declared.link.Pid.{Pid}
 use Rattle.rast_items.specs.declared.event.Event.{Event}
 use Rattle.rast_items.specs.Items.{IsConfig, link_at, held}
 use Rattle.rast_items.specs.Deeds.{Code}
-use Rattle.rast_items.specs.Step.{Stuck}
+use Rattle.rast_items.specs.Step.{Halted, Stuck}
 use Rattle.rast_items.specs.Run.{State, Sent, start_of, step_of, IsOrdered, ArePidsApart, work, sent_at, taken_at}
 use Rattle.rast_laws.specs.Typed.{IsWellTyped, IsSendTyped}
-use Rattle.rast_laws.specs.Ends.{AreIdle, IsFinished}
+use Rattle.rast_items.specs.Ends.{AreIdle, IsFinished}
 
 -- a program that may be run: well made and accepted, with a main, and with the plan of its run
 pub record IsReady (c : Code) : Type 0 where
@@ -36,5 +36,7 @@ pub record IsSound (c : Code) (es : List Event) (st : State) : Type 0 where
   pub potential : (begin : State) → start_of c.program ≡ Some begin → work es + held st.items ≡ held begin.items
   -- no process is without a rule
   pub unstuck : (pid : Pid) → step_of c st pid ≡ Stuck → ⊥
+  -- a process is halted at an index of 2 ^ 64 or more alone
+  pub halted : (pid : Pid) (value : ℕ) → step_of c st pid ≡ Halted value → 2 ^ 64 ≤ value
   -- where no process has an event and none is halted, every item waits for its client
   pub progress : AreIdle c st → IsFinished c st

@@ -18,7 +18,7 @@ waits_on (Ready e is) own l h = let none : ⊥ = cc in absurd none
 waits_on (Waits k) own l h = let e : k ≡ l = cc in ap (λ (x : Link). same_link x own) e
 waits_on (Halted v) own l h = let none : ⊥ = cc in absurd none
 waits_on Ended own l h = let none : ⊥ = cc in absurd none
-waits_on Stuck own l h = let none : ⊥ = cc in absurd none
+waits_on Stuck own l h = absurd h
 
 -- whether an answer is that the process waits
 abbrev pub says_waits : Next → Bool
@@ -26,7 +26,6 @@ says_waits (answer.Ready e) = false
 says_waits (answer.Waits l) = true
 says_waits (answer.Halted v) = false
 says_waits answer.Ended = false
-says_waits answer.Stuck = false
 
 -- it doesn't wait
 pub not_waits : (d : Does) (own : Link) (r : Next) → Tells d r → says_waits r ≡ false → is_waiting own d ≡ false
@@ -34,7 +33,7 @@ not_waits (Ready e is) own r h n = refl
 not_waits (Waits k) own r h n = let e : says_waits r ≡ true = ap says_waits h in let none : ⊥ = cc in absurd none
 not_waits (Halted v) own r h n = refl
 not_waits Ended own r h n = refl
-not_waits Stuck own r h n = refl
+not_waits Stuck own r h n = absurd h
 
 pub process_waits : (g : Program) (v : Shown) (p : Proc) (pid : Pid) (l : Link) (b : Bool) → pid ≡ p.pid → Tells (next_of g v pid) (answer.Waits l) → same_link l p.own ≡ b →
     (if b then codes "wait" else codes "...") ≡ process_text g v p

@@ -8,7 +8,7 @@ use Rattle.rast_items.specs.Links.{same_link}
 use Rattle.rast_items.specs.Run.{work, time, pid_of, moment_of}
 use Rattle.rast_core.specs.Shown.{Shown}
 use Rattle.rast_core.specs.declared.answer.Outcome.{Outcome}
-use Rattle.rast_core.specs.declared.answer.Outcome.TheVariants.{Running, Finished, OutOfBudget, IndexLimit, Blocked}
+use Rattle.rast_core.specs.declared.answer.Outcome.TheVariants.{Running, Finished, OutOfBudget, IndexLimit}
 use Rattle.rast_report.specs.Texts.{Text, pid_text, link_text, body_text, decl_text}
 use Rattle.rast_report.specs.Values.{value_text}
 
@@ -75,7 +75,6 @@ outcome_text Running = []
 outcome_text Finished = codes "finished"
 outcome_text OutOfBudget = codes "out of budget"
 outcome_text (IndexLimit pid v) = codes "index limit at " ++ (pid_text pid ++ limit_text v)
-outcome_text Blocked = codes "blocked"
 
 -- a line of a word and a number
 abbrev pub count_line : Text → ℕ → Text

@@ -1,6 +1,7 @@
 // The printed value.
 ghost use Rattle.std.specs.Prelude.{◌≡◌, ◌<◌, ◌+◌, ◌-◌, ◌^◌, IfOk, length};
 ghost use Rattle.rast_items.specs.Links.{same_link};
+ghost use Rattle.rast_core.specs.Promises.{IsGoing};
 ghost use Rattle.rast_report.specs.Values.{process_text, value_text, is_client};
 ghost use Rattle.rast_report.specs.Turns.{Goes, TurnsAt, GoesBack, Advances};
 
@@ -35,6 +36,7 @@ fn is_to_client(side: Side) -> bool
 
 // What a process shows that provides the link of the value.
 fn process_shows(program: &Program, config: &Config, proc: &Proc) -> &'static [u8]
+    requires { IsGoing program.now config.now }
     ensures { result.now ≡ process_text program.now config.now proc.now }
 {
     match config.enabled(program, proc.pid) {
@@ -108,7 +110,8 @@ fn put_item(
     place: usize,
     link: Link,
 ) -> Result<Turn, AllocError>
-    requires { place < length config.now.items }
+    requires going { IsGoing program.now config.now }
+    requires place { place < length config.now.items }
     ensures { IfOk result (λ turn. TurnsAt program.now config.now text.old.items text.new.items place link turn) }
 {
     match &config.items()[place] {
@@ -157,6 +160,7 @@ fn advance(
     waiting: &mut Vec<Waiting>,
     at: Waiting,
 ) -> Result<Option<Waiting>, AllocError>
+    requires { IsGoing program.now config.now }
     ensures { IfOk result (λ next. Advances program.now config.now text.old.items text.new.items waiting.old.items waiting.new.items at next) }
 {
     let Waiting { link, place } = at;
@@ -179,8 +183,9 @@ fn advance(
     }
 }
 
-/// What main's channel holds for a client: the value of a configuration.
+/// What main's channel holds for a client: the value of a configuration that a run of an accepted program came to.
 pub fn value(alloc: Global, program: &Program, config: &Config) -> Result<Vec<u8>, AllocError>
+    requires { IsGoing program.now config.now }
     ensures { IfOk result (λ text. text.items ≡ value_text program.now config.now) }
 {
     let mut text = Vec::new(alloc);

@@ -1,6 +1,7 @@
 // The report of a run.
 ghost use Rattle.std.specs.Prelude.{◌≡◌, ◌++◌, ◌<◌, ◌^◌, IfOk, OnOk};
 ghost use Rattle.rast_items.specs.Run.{work};
+ghost use Rattle.rast_core.specs.Promises.{IsGoing};
 ghost use Rattle.rast_report.specs.Reports.{outcome_text, limit_text, count_line, counts_text, shown_result, report};
 
 use crate::printing::value;
@@ -40,7 +41,6 @@ fn put_outcome(alloc: Global, text: &mut Vec<u8>, outcome: Outcome) -> Result<()
         Outcome::Finished => put(text, b"finished"),
         Outcome::OutOfBudget => put(text, b"out of budget"),
         Outcome::IndexLimit { pid, value } => put_index_limit(alloc, text, pid, value),
-        Outcome::Blocked => put(text, b"blocked"),
     }
 }
 
@@ -75,6 +75,7 @@ fn put_result(
     config: &Config,
     asked: bool,
 ) -> Result<(), AllocError>
+    requires { IsGoing program.now config.now }
     ensures { OnOk result (text.new.items ≡ text.old.items ++ shown_result program.now config.now asked) }
 {
     if !asked {
@@ -88,7 +89,7 @@ fn put_result(
 
 /// The report of a run: the outcome, the numbers of events, work, held potential and time.
 ///
-/// `config` is the configuration after the events of `history`, and `outcome` how far the run has come.
+/// `config` is the configuration that a run of an accepted program came to by the events of `history`, and `outcome` how far it has come.
 /// With `traced` a line for each event comes first; with `valued` the value of the configuration comes last.
 pub fn report_text(
     alloc: Global,
@@ -99,7 +100,8 @@ pub fn report_text(
     traced: bool,
     valued: bool,
 ) -> Result<Vec<u8>, AllocError>
-    requires { work history.now < 2 ^ 128 }
+    requires going { IsGoing program.now config.now }
+    requires work { work history.now < 2 ^ 128 }
     ensures { IfOk result (λ text. text.items ≡ report program.now outcome history.now config.now traced valued) }
 {
     let mut text = Vec::new(alloc);

@@ -13,3 +13,6 @@ returns-clause-refutes c = refutes_all c.args.program.now c.check_formed.result 
 
 pub returns-clause-forest : goal.returns-clause-forest
 returns-clause-forest c = whenever_ok c.check_formed.result (c.in_ok-is_formed.ensures.more c.if-not-branch.false).forest
+
+pub returns-clause-made : goal.returns-clause-made
+returns-clause-made c = whenever_ok c.check_formed.result (c.in_ok-is_formed.ensures.more c.if-not-branch.false).made

@@ -1,13 +1,14 @@
 use Rattle.std.proofs.Common.{◌∙◌, ap, not, sym, true≢false}
 use Rattle.rast_check.specs.Decided.{searched}
 use Rattle.rast_check.proofs.Forests.{forest_clear}
+use Rattle.rast_cli.proofs.Ending.{loads_runnable, is_some_main}
 use Rattle.rast_cli.proofs.tests_replay.program_of.Goals as goal
 
-pub returns-clause-starts : goal.returns-clause-starts
-returns-clause-starts c =
-    c.starts_law.ensures _ c.in-Ok.checked.program c.in-Ok.ensures.loaded (λ none.
+pub returns-clause-runnable : goal.returns-clause-runnable
+returns-clause-runnable c =
+    loads_runnable _ c.in-Ok.checked.program c.in-Ok.ensures.loaded (is_some_main c.in-Ok.checked.program.main (λ none.
     let some = rw (c.program.ensures, none) at c.is_none.ensures in
-    true≢false (sym (some ∙ ap not c.if-is_none.false)))
+    true≢false (sym (some ∙ ap not c.if-is_none.false))))
 
 pub returns-clause-accepted : goal.returns-clause-accepted
 returns-clause-accepted c = c.in-Ok.ensures.loaded.accepted

@@ -1,6 +1,9 @@
 use Rattle.std.proofs.Common.{inr}
-use Rattle.rast_cli.proofs.TopRows.{run_of, check_of, show_of, decide_of, runs_of, checks_of, shows_of}
+use Rattle.rast_cli.proofs.TopRows.{sound_of, run_of, check_of, show_of, decide_of, runs_of, checks_of, shows_of}
 use Rattle.rast_cli.proofs.top.rast.Goals as goal
+
+pub returns-clause-headline : goal.returns-clause-headline
+returns-clause-headline g c = λ name budget trace asks. sound_of _ _ _ _ _ _ _ name budget trace asks c.in-Ok.said.answer c.in-Ok.ensures
 
 pub returns-clause-run : goal.returns-clause-run
 returns-clause-run g c = λ name budget trace asks. run_of _ _ _ _ _ _ _ _ _ _ _ _ name budget trace asks c.in-Ok.said.answer c.in-Ok.ensures (rw c.deref.ensures.value at c.print-status.ensures)

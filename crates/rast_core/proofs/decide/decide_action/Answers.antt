@@ -1,6 +1,6 @@
-use Rattle.std.proofs.Common.{◌≡◌, ◌+◌, ◌<◌, ◌≤◌, ◌^◌, arith, refl, sym, ap, subst, ◌∙◌, take, drop}
+use Rattle.std.proofs.Common.{arith, refl, ap, subst, ◌∙◌}
 use Rattle.std.proofs.lemmas.Option.{slice_get_within}
-use Rattle.rast_core.specs.Words.{Client, Provider, Side, Item, P, Proc}
+use Rattle.rast_core.specs.Words.{Client, Provider, Side, P, Proc}
 use Rattle.rast_items.specs.Step.{is_proc}
 use Rattle.rast_items.specs.Slack.{IsItemSlack}
 use Rattle.rast_items.specs.declared.action.Action.{Action}
@@ -9,11 +9,20 @@ use Rattle.rast_core.specs.Shown.{run_code}
 use Rattle.rast_core.specs.Edits.{KeepsPid}
 use Rattle.rast_core.proofs.Cuts.{free_before}
 use Rattle.rast_core.proofs.MessageSteps.{potential_within}
-use Rattle.rast_core.proofs.DecideLemmas.{of_action, item_holds, put_decided, turn_decided, work_decided, delay_decided, make_decided}
+use Rattle.rast_core.proofs.DecideLemmas.{of_action, rule_of, item_holds, put_decided, turn_decided, work_decided, delay_decided, make_decided}
 use Rattle.rast_core.proofs.decide.decide_action.Goals as goal
 
 pub take_below-requires-clause-own : goal.take_below-requires-clause-own
 take_below-requires-clause-own c = omega (arith, potential_within c.args.items.now c.args.place (P c.args.proc.now) c.requires.at, c.requires.potential)
+
+pub take_below-requires-clause-fits : goal.take_below-requires-clause-fits
+take_below-requires-clause-fits c = rule_of c.args.program.now c.args.items.now c.args.place c.args.proc.now c.args.action (action.Take c.in-Take.link Client) c.requires.rule (c.in-Take.is ∙ ap (λ (s : Side). action.Take c.in-Take.link s) c.in-Client.is)
+
+pub take_above-requires-clause-fits : goal.take_above-requires-clause-fits
+take_above-requires-clause-fits c = rule_of c.args.program.now c.args.items.now c.args.place c.args.proc.now c.args.action (action.Take c.in-Take.link Provider) c.requires.rule (c.in-Take.is ∙ ap (λ (s : Side). action.Take c.in-Take.link s) c.in-Provider.is)
+
+pub unreachable-requires : goal.unreachable-requires
+unreachable-requires c = (rule_of c.args.program.now c.args.items.now c.args.place c.args.proc.now c.args.action action.Breaks c.requires.rule c.in-Breaks.is).1 refl
 
 pub take_above-requires-clause-at : goal.take_above-requires-clause-at
 take_above-requires-clause-at c = slice_get_within c.args.items.now c.args.place (P c.args.proc.now) c.requires.at

@@ -1,6 +1,5 @@
-use Rattle.std.proofs.Common.{◌≡◌, ℕ, List, [], ◌∷◌, ◌++◌, Option, ◌∙◌, ap, sym, take, drop, ◌+◌}
-use Rattle.rast_core.specs.Words.{Item, M, Proc}
-use Rattle.rast_items.specs.Step.{put_beside, rest_items}
+use Rattle.std.proofs.Common.{List, ◌++◌, ◌∙◌, ap, sym, take, drop, ◌+◌}
+use Rattle.rast_core.specs.Words.{Item, M}
 use Rattle.rast_core.proofs.Places.{set_at_place}
 use Rattle.rast_core.proofs.Puts.{close_beside}
 use Rattle.rast_core.proofs.decide.put.Goals as goal

@@ -1,4 +1,4 @@
-use Rattle.std.proofs.Common.{◌≡◌, sym}
+use Rattle.std.proofs.Common.{sym}
 use Rattle.rast_items.specs.Step.{is_proc}
 use Rattle.rast_core.proofs.Cuts.{cut_at, none_more, read_at}
 use Rattle.rast_core.proofs.find.find_process.Goals as goal

@@ -1,4 +1,4 @@
-use Rattle.std.proofs.Common.{◌≡◌, sym, ◌∙◌}
+use Rattle.std.proofs.Common.{sym, ◌∙◌}
 use Rattle.rast_core.proofs.Cuts.{read_at}
 use Rattle.rast_core.proofs.find.stands_at.Goals as goal
 

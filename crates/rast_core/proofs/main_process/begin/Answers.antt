@@ -1,5 +1,5 @@
-use Rattle.std.proofs.Common.{◌≡◌, sym}
-use Rattle.rast_core.proofs.Beginning.{main_natural, main_begins, main_missing, decl_missing}
+use Rattle.std.proofs.Common.{sym}
+use Rattle.rast_core.proofs.Beginning.{main_natural, main_begins}
 use Rattle.rast_core.proofs.main_process.begin.Goals as goal
 
 pub body_of-requires : goal.body_of-requires

@@ -1,9 +1,13 @@
-use Rattle.std.proofs.Common.{◌≡◌, refl, sym, ◌∙◌, ap, subst, drop, ◌+◌}
-use Rattle.rast_core.specs.Words.{Client, Link, Item, Proc}
+use Rattle.std.proofs.Common.{refl, ap, drop, ◌+◌}
+use Rattle.rast_core.specs.Words.{Client, P, Proc}
 use Rattle.rast_items.specs.Step.{is_msg}
-use Rattle.rast_core.specs.Edits.{HandsOn}
-use Rattle.rast_core.proofs.MessageSteps.{met_read, below_moved, hands_same}
+use Rattle.rast_core.proofs.MessageSteps.{met_read, no_process, below_moved, hands_same}
 use Rattle.rast_core.proofs.messages.forward.Goals as goal
+
+pub hand_on-requires : goal.hand_on-requires
+hand_on-requires c = λ q e.
+    no_process c.args.other Client (drop (c.args.place + 1) c.args.items.now) c.in-Some.offset q
+    (met_read (is_msg c.args.other Client) c.rest_of-below.result.now (drop (c.args.place + 1) c.args.items.now) c.in-Some.offset c.index-below-offset.result (P q) c.rest_of-below.ensures c.in-Some.ensures c.index-below-offset.is e)
 
 pub returns-in-Some : goal.returns-in-Some
 returns-in-Some c =

@@ -1,9 +1,14 @@
-use Rattle.std.proofs.Common.{◌≡◌, refl, sym, ◌∙◌, ap, subst, take}
-use Rattle.rast_core.specs.Words.{Provider, Link, Item, Proc}
+use Rattle.std.proofs.Common.{refl, ap, subst, take}
+use Rattle.rast_core.specs.Words.{Provider, P, Link, Proc}
 use Rattle.rast_items.specs.Step.{is_msg}
-use Rattle.rast_core.specs.Edits.{IsCutAt, HandsOn}
-use Rattle.rast_core.proofs.MessageSteps.{met_read, above_moved, hands_same}
+use Rattle.rast_core.specs.Edits.{IsCutAt}
+use Rattle.rast_core.proofs.MessageSteps.{met_read, no_process, above_moved, hands_same}
 use Rattle.rast_core.proofs.messages.forward_up.Goals as goal
+
+pub hand_on-requires : goal.hand_on-requires
+hand_on-requires c = λ q e.
+    no_process c.own-own.result Provider (take c.args.place c.args.items.now) c.in-Some.at q
+    (met_read (is_msg c.own-own.result Provider) c.front_of-above.result.now (take c.args.place c.args.items.now) c.in-Some.at c.index-above-at.result (P q) c.front_of-above.ensures c.in-Some.ensures c.index-above-at.is e)
 
 pub returns-in-Some : goal.returns-in-Some
 returns-in-Some c =

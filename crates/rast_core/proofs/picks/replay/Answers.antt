@@ -3,9 +3,17 @@ use Rattle.std.specs.Prelude.{slice_get}
 use Rattle.std.proofs.lemmas.Option.{slice_get-get_or}
 use Rattle.rast_core.specs.Words.{Event}
 use Rattle.rast_items.specs.Items.{pid_at}
+use Rattle.rast_laws.proofs.Begun.{ready_starts}
+use Rattle.rast_core.specs.Shown.{run_code}
 use Rattle.rast_core.specs.Promises.{IsRefusedAt}
-use Rattle.rast_core.proofs.PickLemmas.{IsPartReplay, picks_go_on, picks_stop, picks_end}
+use Rattle.rast_core.proofs.PickLemmas.{IsPartReplay, picks_going, picks_go_on, picks_stop, picks_end}
 use Rattle.rast_core.proofs.picks.replay.Goals as goal
+
+pub start-requires : goal.start-requires
+start-requires c = ready_starts (run_code c.args.program.now c.args.plan) c.requires.ready
+
+pub step-requires-clause-going : goal.step-requires-clause-going
+step-requires-clause-going c = picks_going c.args.program.now c.args.plan c.args.picks.now c.loop-place.config c.loop-place.history.items c.loop-place.place c.requires.ready c.loop-place.invariant
 
 pub returns-in_default : goal.returns-in_default
 returns-in_default c =
@@ -28,4 +36,4 @@ loop-place-preserved c =
     subst (λ (es : List Event). IsPartReplay g c.args.plan picks c.step.new.self es (place + 1)) (sym c.in_ok-push-in-Ready.ensures.items) t
 
 pub returns-clause-run : goal.returns-clause-run
-returns-clause-run c = picks_end c.args.program.now c.args.plan c.args.picks.now c.loop-place.config c.loop-place.history.items c.loop-place.place c.loop-place.invariant (let k = c.loop-place-test.false in omega (arith, k))
+returns-clause-run c = picks_end c.args.program.now c.args.plan c.args.picks.now c.loop-place.config c.loop-place.history.items c.loop-place.place c.requires.ready c.loop-place.invariant (let k = c.loop-place-test.false in omega (arith, k))

@@ -1,4 +1,3 @@
-use Rattle.std.proofs.Common.{◌≡◌, ◌+◌, length}
 use Rattle.rast_core.proofs.PickLemmas.{IsPartReplay}
 use Rattle.rast_core.proofs.picks.replay.Given as goal
 

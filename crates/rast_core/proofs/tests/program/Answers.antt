@@ -7,7 +7,5 @@ use Rattle.rast_core.proofs.tests.program.Goals as goal
 pub returns : goal.returns
 returns c =
     let a = c.decl.result in
-    let b = c.decl-2.result in
-    let d = c.decl-3.result in
-    let all : c.push-3.new.self ≡ a ∷ b ∷ d ∷ [] = c.in_ok-push-3.ensures.ok ∙ ap (λ (xs : List Decl). xs ++ d ∷ []) (c.in_ok-push-2.ensures.ok ∙ ap (λ (xs : List Decl). xs ++ b ∷ []) (c.in_ok-push.ensures.ok ∙ ap (λ (xs : List Decl). xs ++ a ∷ []) c.new-decls.ensures)) in
-    natural_starts 0 (slice_get c.push-3.new.self 0) a c.args.potential (ap (λ (xs : List Decl). slice_get xs 0) all) c.decl.ensures
+    let all : c.push-2.new.self ≡ a ∷ [] = c.in_ok-push-2.ensures.ok ∙ ap (λ (xs : List Decl). xs ++ a ∷ []) c.new-decls.ensures in
+    natural_starts 0 (slice_get c.push-2.new.self 0) a c.args.potential (ap (λ (xs : List Decl). slice_get xs 0) all) c.decl.ensures

@@ -1,6 +1,3 @@
-use Rattle.std.proofs.Common.{◌≡◌, ◌+◌, length}
-use Rattle.rast_items.specs.Run.{State}
-use Rattle.rast_core.specs.Shown.{IsReplay}
 use Rattle.rast_core.proofs.TurnLemmas.{IsPartRun}
 use Rattle.rast_core.proofs.turns.run.Given as goal
 

@@ -1,6 +1,7 @@
 use Rattle.std.proofs.Common.{◌^◌, length, sym, subst}
 use Rattle.rast_equal.specs.Equated.{equations_fault}
 use Rattle.rast_equal.specs.Fit.{IsFitEquation}
+use Rattle.rast_equal.proofs.Sound.{table_means}
 use Rattle.rast_equal.proofs.Tables.{answers_from, next_below, rests_false, rests_first, rests_next, rests_none}
 use Rattle.rast_equal.proofs.equations.check_equations.Goals as goal
 
@@ -29,3 +30,7 @@ returns-clause-first c = (rests_none c.args.table.now.defs c.args.equations.now 
 
 pub returns-clause-holds : goal.returns-clause-holds
 returns-clause-holds c = (rests_none c.args.table.now.defs c.args.equations.now c.loop-i.i c.loop-i-test.false c.loop-i.invariant).1
+
+pub returns-clause-equal : goal.returns-clause-equal
+returns-clause-equal c =
+    table_means c.args.table.now.defs c.args.equations.now (rests_none c.args.table.now.defs c.args.equations.now c.loop-i.i c.loop-i-test.false c.loop-i.invariant).1

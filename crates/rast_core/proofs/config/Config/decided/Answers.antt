@@ -1,8 +1,7 @@
-use Rattle.std.proofs.Common.{◌≡◌, ◌<◌, refl, ap, sym, ◌∙◌, Some}
-use Rattle.std.specs.Prelude.{slice_get, length}
+use Rattle.std.proofs.Common.{◌≡◌, ap, ◌∙◌, Some}
+use Rattle.std.specs.Prelude.{slice_get}
 use Rattle.std.proofs.lemmas.Option.{slice_get_within}
-use Rattle.rast_core.specs.Words.{P, M}
-use Rattle.rast_core.specs.Edits.{IsCutAt}
+use Rattle.rast_core.specs.Words.{P}
 use Rattle.rast_core.proofs.ConfigLemmas.{pid_here, no_message_here, decides_same}
 use Rattle.rast_core.proofs.config.Config.decided.Goals as goal
 

@@ -1,8 +1,7 @@
-use Rattle.std.proofs.Common.{◌≡◌, ◌+◌, ◌≤◌, subst}
+use Rattle.std.proofs.Common.{◌+◌, ◌≤◌, subst}
 use Rattle.rast_core.specs.Shown.{code_of, next_of}
 use Rattle.rast_core.specs.Edits.{Decides, IsStepEdit}
 use Rattle.rast_core.specs.declared.decision.Decision.{Decision}
-use Rattle.rast_core.specs.declared.decision.Decision.TheVariants.{Does as Do}
 use Rattle.rast_core.specs.Words.{Event}
 use Rattle.rast_items.specs.Items.{held}
 use Rattle.rast_items.specs.Run.{work_by}

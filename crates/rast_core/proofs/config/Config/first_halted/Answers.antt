@@ -1,4 +1,4 @@
-use Rattle.std.proofs.Common.{◌≡◌, ◌<◌, ◌≤◌, ◌+◌, List, sym, ◌∙◌, subst, drop}
+use Rattle.std.proofs.Common.{◌<◌, ◌≤◌, ◌+◌, List, sym, ◌∙◌, subst, drop}
 use Rattle.std.specs.Prelude.{length}
 use Rattle.rast_core.specs.Words.{Item}
 use Rattle.rast_core.specs.Shown.{first_halted}

@@ -1,7 +1,5 @@
 use Rattle.std.proofs.Common.{◌≡◌, drop}
-use Rattle.std.specs.List.{list_all}
-use Rattle.rast_items.specs.Ends.{is_poised}
-use Rattle.rast_core.specs.Shown.{some_ready, first_halted, are_poised, code_of}
+use Rattle.rast_core.specs.Shown.{first_halted}
 use Rattle.rast_core.specs.declared.answer.Outcome.{Outcome}
 use Rattle.rast_core.proofs.config.Config.first_halted.Given as goal
 

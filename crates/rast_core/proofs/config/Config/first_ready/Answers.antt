@@ -1,4 +1,4 @@
-use Rattle.std.proofs.Common.{◌≡◌, ◌<◌, ◌≤◌, List, sym, ◌∙◌, subst}
+use Rattle.std.proofs.Common.{◌<◌, ◌≤◌, List, sym, ◌∙◌, subst}
 use Rattle.std.specs.Prelude.{length}
 use Rattle.rast_core.specs.Words.{Item}
 use Rattle.rast_core.proofs.LookLemmas.{ready_found, ready_past, ready_end}

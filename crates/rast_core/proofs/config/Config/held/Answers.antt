@@ -1,4 +1,4 @@
-use Rattle.std.proofs.Common.{◌≡◌, ◌+◌, ◌<◌, ◌^◌, ℕ, List, ap, ◌∙◌, subst, sym, arith}
+use Rattle.std.proofs.Common.{◌+◌, ◌<◌, ◌^◌, List, ap, ◌∙◌, subst, sym, arith}
 use Rattle.rast_core.specs.Words.{Item}
 use Rattle.rast_items.specs.Items.{held}
 use Rattle.rast_core.specs.Shown.{Shown}

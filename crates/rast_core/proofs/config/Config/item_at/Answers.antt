@@ -1,4 +1,4 @@
-use Rattle.std.proofs.Common.{◌≡◌, ap, subst, List, get_or, arith}
+use Rattle.std.proofs.Common.{◌≡◌, ap, subst, List, get_or}
 use Rattle.rast_core.specs.Words.{Item}
 use Rattle.rast_core.specs.Shown.{Shown}
 use Rattle.rast_core.proofs.Cuts.{read_at}

@@ -1,6 +1,5 @@
-use Rattle.std.proofs.Common.{◌≡◌, ap, sym, ◌∙◌, subst, Some, None, Option}
-use Rattle.std.specs.Prelude.{slice_get}
-use Rattle.rast_core.specs.Words.{Item, P, M, Proc}
+use Rattle.std.proofs.Common.{ap, sym, ◌∙◌, subst, Some, None, Option}
+use Rattle.rast_core.specs.Words.{Item, Proc}
 use Rattle.rast_core.specs.Shown.{next_of}
 use Rattle.rast_core.specs.Looks.{IsNextAt}
 use Rattle.rast_core.proofs.LookLemmas.{tells_by}

@@ -1,4 +1,4 @@
-use Rattle.std.proofs.Common.{◌≡◌, ap, ◌∙◌, subst, List}
+use Rattle.std.proofs.Common.{ap, subst, List}
 use Rattle.rast_core.specs.Words.{Item}
 use Rattle.rast_items.specs.Step.{is_proc}
 use Rattle.rast_core.specs.Shown.{Shown}

@@ -1,6 +1,5 @@
-use Rattle.std.proofs.Common.{◌≡◌, Some, sym, subst}
+use Rattle.std.proofs.Common.{Some, sym, subst}
 use Rattle.std.specs.Prelude.{slice_get}
-use Rattle.rast_core.specs.Words.{Pid}
 use Rattle.rast_core.specs.Looks.{IsNextAt}
 use Rattle.rast_core.specs.declared.answer.Next.{Next}
 use Rattle.rast_core.proofs.LookLemmas.{ready_at, quiet_at, message_at}

@@ -1,0 +1,11 @@
+pub mod Exactly
+pub mod Labelling
+pub mod Making
+pub mod Naming
+pub mod Passing
+pub mod Putting
+pub mod Results
+pub mod Saying
+pub mod Scoped
+pub mod Testing
+pub mod Visiting

@@ -1,0 +1,7 @@
+use Rattle.std.proofs.Common.{◌≡◌, drop}
+use Rattle.rast_made.specs.Made.{are_said}
+use Rattle.rast_made.specs.WellMade.{names_of_decl}
+use Rattle.rast_made.proofs.said.are_decls_said.Given as goal
+
+abbrev pub invariant-loop-i : goal.invariant-loop-i
+invariant-loop-i l = are_said l.program names_of_decl (drop l.i l.decls) (drop l.i l.said) ≡ are_said l.program names_of_decl l.decls l.said

@@ -1,0 +1,14 @@
+pub mod Apart
+pub mod Kept
+pub mod Numbers
+pub mod Places
+pub mod Labels
+pub mod Terms
+pub mod Types
+pub mod Forests
+pub mod Tables
+pub mod Grown
+pub mod Adding
+pub mod Shapes
+pub mod Holding
+pub mod Meant
