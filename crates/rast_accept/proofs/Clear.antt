@@ -1,5 +1,5 @@
 -- A program of which nothing is false, undecided or over a limit is not refused.
-use Rattle.std.proofs.Common.{◌≡◌, ◌∙◌, ℕ, List, Option, None, Some, Ok, Err, refl, sym, ap, subst}
+use Rattle.std.proofs.Common.{◌≡◌, ◌∙◌, ℕ, List, Option, None, Some, sym, ap, subst}
 use Rattle.rast_terms.specs.declared.program.Program.{Program}
 use Rattle.rast_equal.specs.declared.answer.SameErr.{SameErr}
 use Rattle.rast_equal.specs.declared.answer.SameErr.TheVariants as same

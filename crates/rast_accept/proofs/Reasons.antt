@@ -1,5 +1,5 @@
 -- Refusals of the calls are reasons why a text isn't loaded.
-use Rattle.std.proofs.Common.{◌≡◌, ◌∙◌, ℕ, List, Option, None, Result, Ok, Err, refl, sym, ap, subst}
+use Rattle.std.proofs.Common.{◌≡◌, ◌∙◌, ℕ, List, None, Ok, Err, refl, sym, ap, subst}
 use Rattle.rast_ast.specs.declared.file.File.{File}
 use Rattle.rast_terms.specs.declared.program.Program.{Program}
 use Rattle.rast_load.specs.declared.form.FormErr.{FormErr}

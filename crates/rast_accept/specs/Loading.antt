@@ -1,5 +1,5 @@
 -- The accepted program that a text says, or the first reason why it says none.
-use Rattle.std.specs.Prelude.{◌≡◌, ℕ, Bool, List, Option, None, Ok, Err}
+use Rattle.std.specs.Prelude.{◌≡◌, ℕ, List, Option, None, Ok, Err}
 use Rattle.rast_ast.specs.declared.file.File.{File}
 use Rattle.rast_terms.specs.declared.program.Program.{Program}
 use Rattle.rast_load.specs.Reading.{IsFile, IsFault}

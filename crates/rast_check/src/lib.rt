@@ -12,8 +12,6 @@ mod kids;
 mod node;
 mod premise;
 mod scope;
-#[cfg(test)]
-mod tests;
 mod types;
 mod walk;
 

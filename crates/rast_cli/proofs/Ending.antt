@@ -125,6 +125,7 @@ module _ (limit : ℕ) (held : Option Named) (name : List ℕ) (budget : ℕ) (t
         sound = full.sound;
         ended = subst (λ (p : Plan). EndsAs o (run_code r.program p) budget history full.state) full.plan_is ended;
         config = config;
+        plan_is = full.plan_is;
         shows = full.replayed;
         outcome_is = r.report.ended_is;
         text_is = r.report.text_is;

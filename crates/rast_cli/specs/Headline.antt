@@ -32,7 +32,7 @@ EndsAs OutOfBudget c budget es st = (length es ≡ budget) × HasEvent c st
 EndsAs (IndexLimit pid value) c budget es st = (step_of c st pid ≡ Halted value) × (2 ^ 64 ≤ value)
 
 -- The file of this name says an accepted program, and the history is a run of it, of at most so many events, that is sound and that
--- ended so; the text is the report of this history and of the configuration that it comes to.
+-- ended so; the text is the report of this history and of the configuration that it comes to, which keeps the plan.
 pub record IsSoundRun (limit : ℕ) (held : Option Named) (name : List ℕ) (budget : ℕ) (trace : Bool) (outcome : Outcome) (text : List ℕ) (history : List Event) : Type 0 where
   pub program : Program
   pub loaded : IsLoaded limit held name program
@@ -44,6 +44,7 @@ pub record IsSoundRun (limit : ℕ) (held : Option Named) (name : List ℕ) (bud
   pub sound : IsSound (run_code program plan) history state
   pub ended : EndsAs outcome (run_code program plan) budget history state
   pub config : Shown
+  pub plan_is : config.plan ≡ plan
   pub shows : IsReplay program config history state
   pub outcome_is : outcome ≡ outcome_of program config (length history) budget
   pub text_is : text ≡ report program outcome history config trace true

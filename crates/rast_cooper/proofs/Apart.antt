@@ -3,7 +3,7 @@ use Rattle.std.proofs.Common.{◌≡◌, ◌⊎◌, inl, inr, ⊎_elim, ℕ, suc
 use Rattle.std.specs.List.{list_all, list_any}
 use Rattle.std.proofs.lemmas.Int.{ints, unsigned_abs-mul}
 use Rattle.std.proofs.Math.Nat.{add-mul-mod_self_right, zero-mod}
-use Rattle.rast_cooper.proofs.Whole.{mul_assoc_ℤ}
+use Rattle.rast_index.proofs.Whole.{mul_assoc_ℤ}
 use Rattle.rast_index.specs.Truth.{truth, truth_step, related, divides}
 use Rattle.rast_index.specs.Linear.{magnitude, int_eq}
 use Rattle.rast_index.specs.declared.formula.Rel.{Rel}

@@ -8,7 +8,7 @@ use Rattle.rast_cooper.specs.declared.literal.Sort.TheVariants.{AtLeast, Equals,
 use Rattle.rast_cooper.specs.declared.literal.Literal.{Literal}
 use Rattle.rast_cooper.specs.Meaning.{Divides, Says, Holds, Hold}
 use Rattle.rast_cooper.specs.Eliminate.{is_bound, is_one, is_lower, bound, bounds}
-use Rattle.rast_cooper.proofs.Whole.{mul_assoc_ℤ, mul_add_ℤ, add_mul_ℤ, zero_mul_ℤ}
+use Rattle.rast_index.proofs.Whole.{mul_assoc_ℤ, mul_add_ℤ, add_mul_ℤ, zero_mul_ℤ}
 use Rattle.rast_cooper.proofs.Values.{value_at, value_times}
 
 abbrev pub In : {A : Type 0} → A → List A → Type 0

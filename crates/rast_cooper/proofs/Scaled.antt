@@ -8,7 +8,8 @@ use Rattle.rast_cooper.specs.declared.literal.Sort.TheVariants.{AtLeast, Equals,
 use Rattle.rast_cooper.specs.declared.literal.Literal.{Literal}
 use Rattle.rast_cooper.specs.Meaning.{Says, Holds, literal}
 use Rattle.rast_cooper.specs.Eliminate.{is_zero, sign, has, multiplied, scaled, substituted}
-use Rattle.rast_cooper.proofs.Whole.{mul_assoc_ℤ, mul_comm_ℤ, zero_mul_ℤ, cancel}
+use Rattle.rast_index.proofs.Whole.{mul_assoc_ℤ, mul_comm_ℤ, zero_mul_ℤ}
+use Rattle.rast_cooper.proofs.Whole.{cancel}
 use Rattle.rast_cooper.proofs.Values.{value_at, value_here, value_exchanged, value_scaled}
 use Rattle.rast_cooper.proofs.Multiples.{Of}
 

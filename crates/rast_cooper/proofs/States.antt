@@ -12,7 +12,7 @@ use Rattle.rast_cooper.specs.Eliminate.{is_equation, is_zero, sign, has, multipl
 use Rattle.rast_cooper.specs.Claims.{Claim, Node, Always, Never, Atom, Every, Some_of}
 use Rattle.rast_cooper.specs.declared.solution.Solution.{Solution}
 use Rattle.rast_cooper.specs.Search.{State, state, Step, Ended, Beyond, Solved, Next, apart, free, ground, says, fails, varied, unit_from, unit, solution, solved_one, first_solved, own, point_states, bound_states, fit}
-use Rattle.rast_cooper.proofs.Whole.{mul_assoc_ℤ, mul_comm_ℤ, zero_mul_ℤ}
+use Rattle.rast_index.proofs.Whole.{mul_assoc_ℤ, mul_comm_ℤ, zero_mul_ℤ}
 use Rattle.rast_cooper.proofs.Values.{value_times, value_here, value_exchanged, get_or_set}
 use Rattle.rast_cooper.proofs.Multiples.{Of, AllFit}
 use Rattle.rast_cooper.proofs.Scaled.{value_multiplied, value_without, zero_of, quotient, inside_of}

@@ -10,7 +10,7 @@ use Rattle.rast_cooper.specs.declared.literal.Sort.TheVariants.{AtLeast, Equals,
 use Rattle.rast_cooper.specs.declared.literal.Literal.{Literal}
 use Rattle.rast_cooper.specs.Meaning.{Divides, Says, Holds, Hold, literal}
 use Rattle.rast_cooper.specs.Eliminate.{is_divided, is_equation, is_zero, sign, has, halves, multiplied, scaled, substituted, without_equations, period, bounds, prepared_by, at_point}
-use Rattle.rast_cooper.proofs.Whole.{mul_comm_ℤ, zero_mul_ℤ}
+use Rattle.rast_index.proofs.Whole.{mul_comm_ℤ, zero_mul_ℤ}
 use Rattle.rast_cooper.proofs.Values.{value_times, get_or_set}
 use Rattle.rast_cooper.specs.Eliminate.{Positive}
 use Rattle.rast_cooper.proofs.Multiples.{Of, AllFit, AllDivide, period_divides}

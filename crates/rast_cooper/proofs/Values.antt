@@ -3,7 +3,7 @@ use Rattle.std.proofs.Common.{◌≡◌, ℕ, zero, suc, ◌<◌, ◌≤◌, Lis
 use Rattle.std.proofs.lemmas.Int.{ints}
 use Rattle.std.proofs.lemmas.List.{length-map}
 use Rattle.rast_cooper.specs.Arithmetic.{Linear, weighted, value, coefficient, put, times, both, added, exchanged}
-use Rattle.rast_cooper.proofs.Whole.{mul_assoc_ℤ, mul_add_ℤ, add_mul_ℤ}
+use Rattle.rast_index.proofs.Whole.{mul_assoc_ℤ, mul_add_ℤ, add_mul_ℤ}
 
 weighted_times : (k : ℤ) (cs vs : List ℤ) → weighted (map (λ c. k *ℤ c) cs) vs ≡ k *ℤ weighted cs vs
 weighted_times k [] vs = omega (arith, ints)

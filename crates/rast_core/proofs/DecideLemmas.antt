@@ -1,7 +1,5 @@
 -- What each action comes to in the list.
 use Rattle.std.proofs.Common.{◌≡◌, ℕ, Bool, true, false, ◌+◌, ◌<◌, List, [], ◌∷◌, ◌++◌, Option, Some, None, refl, sym, ap, ap₂, ◌∙◌, subst, length, take, drop, eq-eqb, if◌then◌else◌}
-use Rattle.std.specs.Prelude.{slice_get, All}
-use Rattle.std.proofs.lemmas.Option.{slice_get_within, get_or_from_slice_get}
 use Rattle.rast_terms.specs.declared.program.Program.{Program}
 use Rattle.rast_rules.specs.declared.judgement.Plan.{Plan}
 use Rattle.rast_core.specs.Words.{Pid, Msg, Item, P, Proc, Send, Spawn, Call, Work, Delay}
@@ -54,11 +52,6 @@ pub rule_of : (g : Program) (items : List Item) (i : ℕ) (p : Proc) (a b : Acti
 rule_of g items i p a b h e =
     let d : h.deed ≡ deed_of b = sym (ap deed_of (sym e ∙ h.is) ∙ deed_again h.deed) in
     (h.plan, λ s. h.unstuck (ap (does (run_code g h.plan) (take i items) p (drop (i + 1) items)) d ∙ s))
-
--- ---- facts of the process at its place
-
-pub item_holds : (Q : Item → Type 0) (xs : List Item) (i : ℕ) (x : Item) → All Q xs → slice_get xs i ≡ Some x → Q x
-item_holds Q xs i x a h = subst Q (get_or_from_slice_get xs i x x h) (a i x (slice_get_within xs i x h))
 
 -- ---- deeds
 

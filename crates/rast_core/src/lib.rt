@@ -21,6 +21,3 @@ pub use config::Config;
 pub use origin::Origin;
 pub use picks::replay;
 pub use turns::run;
-
-#[cfg(test)]
-mod tests;

@@ -11,7 +11,7 @@ use Rattle.rast_types.specs.declared.ty.Ty.TheOpen.{One, Plus, With, Tensor, Lol
 use Rattle.rast_types.specs.Closed.{Closed, closed, Table, Layer, Equal, Exposed, exposed, exposed_layer, body_or, unfold_layer, unfolded, kind_layer, part_of}
 use Rattle.rast_types.specs.Symbolic.{put_type, binders, opened, opened_layer, body_at, Timed, timed, timed_layer, opened_body, exposed_type, is_name, is_name_layer, is_scoped}
 use Rattle.rast_equal.proofs.Equals.{SameHeads, equal_refl, some_same, exposes_to}
-use Rattle.rast_equal.proofs.Layers.{put_layer, out_put}
+use Rattle.rast_types.proofs.Layers.{put_layer, out_put}
 use Rattle.rast_equal.proofs.Within.{AllWithin, all_within}
 use Rattle.rast_equal.proofs.Scoped.{scoped_out, scoped_layer, all_replaced}
 use Rattle.rast_equal.proofs.Substitution.{values_of, replaced_values, whole-length, put_heads, kind_put}

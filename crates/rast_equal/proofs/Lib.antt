@@ -12,7 +12,6 @@ pub mod Good
 pub mod Instances
 pub mod Judged
 pub mod Labels
-pub mod Layers
 pub mod Named
 pub mod Premises
 pub mod Proper

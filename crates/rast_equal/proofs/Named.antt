@@ -10,7 +10,7 @@ use Rattle.rast_types.specs.declared.ty.Ty.TheFolds.{map-Ty, ind-Ty}
 use Rattle.rast_types.specs.Closed.{Table, Layer}
 use Rattle.rast_types.specs.Symbolic.{put_type, opened, opened_layer, body_at, timed, timed_layer, exposed_type}
 use Rattle.rast_equal.specs.WellMadeTypes.{is_named, takes_so_many}
-use Rattle.rast_equal.proofs.Layers.{put_layer, out_put}
+use Rattle.rast_types.proofs.Layers.{put_layer, out_put}
 use Rattle.rast_equal.proofs.WellFormed.{named_layer, named_out, named_at}
 
 -- ---- types with their variables replaced

@@ -13,7 +13,7 @@ use Rattle.rast_types.specs.declared.ty.Ty.TheOpen.{Ty-F, One, Plus, With, Tenso
 use Rattle.rast_types.specs.declared.ty.Ty.TheFolds.{map-Ty, fold-roll-Ty, ind-Ty}
 use Rattle.rast_types.specs.Closed.{Layer, Table}
 use Rattle.rast_types.specs.Symbolic.{put_type, is_scoped, scoped_step, body_at, exposed_type, opened, opened_layer, timed, timed_layer}
-use Rattle.rast_equal.proofs.Layers.{put_layer, out_put}
+use Rattle.rast_types.proofs.Layers.{put_layer, out_put}
 use Rattle.rast_equal.proofs.Within.{AllWithin, under_binder, closed_replaced, all_within}
 use Rattle.rast_types.specs.declared.table.TypeDef.{TypeDef}
 use Rattle.rast_index.proofs.Scope.{both_true}

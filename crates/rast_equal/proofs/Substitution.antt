@@ -14,7 +14,7 @@ use Rattle.rast_types.specs.declared.ty.Ty.TheFolds.{map-Ty, fold-roll-Ty}
 use Rattle.rast_types.specs.Closed.{Closed, closed, Table, Layer, Way, Label as ByLabel, First, Second, Inner, At, close_some, part_layer, part_of, kind_layer, figure_layer, Agree, EqualTo, Equal, Exposed, exposed, exposed_layer, body_or, unfold_layer, unfolded}
 use Rattle.rast_types.specs.Symbolic.{put_type, binders, binders_step, most}
 use Rattle.rast_equal.proofs.Equals.{equal_refl, some_same, SameHeads}
-use Rattle.rast_equal.proofs.Layers.{put_layer, out_put}
+use Rattle.rast_types.proofs.Layers.{put_layer, out_put}
 use Rattle.rast_equal.proofs.Within.{AllWithin, under_binder, values_within}
 
 -- ---- binders

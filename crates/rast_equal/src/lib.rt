@@ -10,8 +10,6 @@ mod met;
 mod place;
 mod references;
 mod scope;
-#[cfg(test)]
-mod tests;
 mod validity;
 mod walk;
 

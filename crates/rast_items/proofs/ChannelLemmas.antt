@@ -1,5 +1,5 @@
 -- A process's array of links, seen as its channels.
-use Rattle.std.proofs.Common.{◌≡◌, ℕ, zero, suc, ◌+◌, ◌-◌, ◌<◌, ◌≤◌, List, [], ◌∷◌, ◌++◌, Option, Some, None, arith, refl, sym, ap, ap₂, ◌∙◌, subst, length, take, drop, get_or, set, remove, replicate, add-one}
+use Rattle.std.proofs.Common.{◌≡◌, ℕ, zero, suc, ◌+◌, ◌-◌, ◌<◌, ◌≤◌, List, [], ◌∷◌, ◌++◌, arith, refl, sym, ap, ap₂, ◌∙◌, length, take, drop, set, remove, replicate, add-one}
 use Rattle.std.proofs.lemmas.List.{replicate_more, drop-set-lt, length-set, length-append, length-take, length-drop}
 use Rattle.std.proofs.Math.Seq.{take-set-lt}
 use Rattle.rast_index.specs.Keys.{find_key, set_key, drop_key, IsPlace}
@@ -7,7 +7,7 @@ use Rattle.rast_items.specs.declared.link.Link.{Link}
 use Rattle.rast_items.specs.Process.{Process, no_link, own_of, uses_of, first_is_own}
 use Rattle.rast_items.specs.Again.{count_again}
 use Rattle.rast_items.specs.Deeds.{link_of, with_link}
-use Rattle.rast_items.proofs.EntryLemmas.{place_found, place_set, place_drop, set_missing, drop_missing, gap_take, gap_drop, filled_more}
+use Rattle.rast_items.proofs.EntryLemmas.{place_set, place_drop, gap_take, gap_drop, filled_more}
 
 abbrev Entry : Type 0
 Entry = ℕ × Link

@@ -1,5 +1,5 @@
 -- Entries of channels: the first of a channel, and lists with one changed or left out.
-use Rattle.std.proofs.Common.{◌≡◌, ℕ, zero, suc, Bool, true, false, ◌==◌, ◌+◌, ◌-◌, ◌<◌, ◌≤◌, List, [], ◌∷◌, ◌++◌, Option, Some, None, arith, refl, sym, ap, ◌∙◌, subst, length, take, drop, get_or, set, remove, replicate, if◌then◌else◌, eq-eqb, ne_eqb}
+use Rattle.std.proofs.Common.{◌≡◌, ℕ, zero, suc, Bool, true, false, ◌==◌, ◌+◌, ◌-◌, ◌<◌, ◌≤◌, List, [], ◌∷◌, ◌++◌, Option, Some, None, arith, refl, sym, ap, ◌∙◌, length, take, drop, get_or, set, remove, replicate, if◌then◌else◌, eq-eqb, ne_eqb}
 use Rattle.std.proofs.lemmas.List.{at_drop_more, length-append, length-take, length-drop, set_at, take-append-le, drop-append-le, drop-set-lt, drop-drop, drop-replicate}
 use Rattle.rast_index.specs.Keys.{find_key, set_key, drop_key, IsPlace}
 

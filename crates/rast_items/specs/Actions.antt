@@ -1,5 +1,5 @@
 -- What the calls answer that look at one process alone.
-use Rattle.std.specs.Prelude.{◌≡◌, ℕ, ℤ, pos, negsuc, ◌^◌, ◌<◌, ◌≤◌, List, [], ◌∷◌, Bool, true, false, Option, None, Some}
+use Rattle.std.specs.Prelude.{◌≡◌, ℕ, ℤ, pos, negsuc, ◌^◌, ◌<◌, ◌≤◌, List, [], ◌∷◌, Bool, true, false, None, Some}
 use Rattle.rast_index.specs.Linear.{Linear}
 use Rattle.rast_index.specs.Keys.{numbered, pull}
 use Rattle.rast_terms.specs.declared.program.Decl.{Decl}

@@ -1,6 +1,6 @@
 -- How far the numbers of an item are from the limits of their types.
-use Rattle.std.specs.Prelude.{ℕ, ◌+◌, ◌*◌, ◌^◌, ◌<◌, ◌≤◌, List, [], ◌∷◌, length, All}
-use Rattle.rast_items.specs.Items.{Link, Body, Chan, Msg, Item, P, M, Proc, carried}
+use Rattle.std.specs.Prelude.{ℕ, ◌+◌, ◌*◌, ◌^◌, ◌<◌, ◌≤◌, ◌∷◌, length, All}
+use Rattle.rast_items.specs.Items.{Link, Msg, Item, P, M, Proc, carried}
 
 -- so many more messages may come on the link
 abbrev pub IsOpen : ℕ → Link → Type 0

@@ -16,7 +16,7 @@ use Rattle.rast_types.specs.Symbolic.{put_type, binders, opened, opened_layer, b
 use Rattle.rast_equal.proofs.Equals.{SameHeads, HasKind, equal_refl, equal_heads, heads_sym, HasHead}
 use Rattle.rast_equal.proofs.Unfolds.{next_exposes, plain_unfolds, unfolds_exposes}
 use Rattle.rast_equal.proofs.Exposing.{heads_refl}
-use Rattle.rast_equal.proofs.Layers.{put_layer, out_put}
+use Rattle.rast_types.proofs.Layers.{put_layer, out_put}
 use Rattle.rast_equal.proofs.Within.{AllWithin, all_within}
 use Rattle.rast_equal.proofs.Scoped.{scoped_out, scoped_layer}
 use Rattle.rast_equal.proofs.Substitution.{values_of, whole-length, put_equal, kind_put}

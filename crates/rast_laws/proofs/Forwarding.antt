@@ -28,7 +28,7 @@ use Rattle.rast_laws.proofs.Channels.{SeenAt, AreSeen}
 use Rattle.rast_laws.proofs.Fine.{Stands}
 use Rattle.rast_laws.proofs.Lawful.{Forwards, DeedFine}
 use Rattle.rast_laws.proofs.Judged.{AllAsked, IsTrueAsked, asked_left, asked_right}
-use Rattle.rast_equal.proofs.Layers.{out_put}
+use Rattle.rast_types.proofs.Layers.{out_put}
 use Rattle.rast_laws.proofs.Meeting.{followed}
 use Rattle.rast_laws.proofs.Placed.{Shape}
 use Rattle.rast_laws.proofs.Shapes.{Rising}

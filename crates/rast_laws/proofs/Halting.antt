@@ -1,5 +1,5 @@
 -- A process halts at an index of 2 ^ 64 or more alone.
-use Rattle.std.proofs.Common.{◌≡◌, ℕ, ℤ, pos, negsuc, ◌^◌, ◌≤◌, Bool, true, false, List, [], ◌∷◌, ◌++◌, length, Option, Some, None, refl, sym, subst, if◌then◌else◌, slice_get}
+use Rattle.std.proofs.Common.{◌≡◌, ℕ, ℤ, pos, negsuc, ◌^◌, ◌≤◌, Bool, true, false, List, [], ◌∷◌, ◌++◌, length, Option, Some, None, refl, subst, if◌then◌else◌, slice_get}
 use Rattle.std.proofs.lemmas.Bool.{leb-true}
 use Rattle.std.specs.Prelude.{◌==◌, nat_le, ◌&&◌, slice_index_or as get_or}
 use Rattle.rast_index.specs.Keys.{find_key, pull}
@@ -8,8 +8,8 @@ use Rattle.rast_terms.specs.declared.program.Program.{Program}
 use Rattle.rast_terms.specs.declared.program.Decl.{Decl}
 use Rattle.rast_terms.specs.declared.node.Node.{Node}
 use Rattle.rast_terms.specs.declared.node.Node.TheVariants as node
-use Rattle.rast_items.specs.Deeds.{Code, Deed, Halts, Breaks, Puts, Takes, Moves, Makes, Turns, Works, Delays, at_values, large_in, naturals, unless_large, with_values, with_arguments, argument_values, handed_over, first, link_of, less_channel, puts_at, puts, puts_chan, takes_at, takes, closes, forwards, makes, turns, makes_at, turns_at, has_room, works, act, act_at, deed, after_take}
-use Rattle.rast_items.specs.Step.{Next, Ready, Waits, Halted, Ended, Stuck, Cut, cut, is_proc, is_msg, take_from, take_it, take_client, take_provider, move_it, move_client, move_provider, does, at_item, at_cut, step}
+use Rattle.rast_items.specs.Deeds.{Code, Deed, Halts, Breaks, Puts, Takes, Moves, Makes, Turns, Works, Delays, at_values, large_in, naturals, unless_large, with_values, with_arguments, argument_values, handed_over, first, link_of, less_channel, puts_at, puts_chan, takes_at, closes, forwards, makes, turns, makes_at, turns_at, has_room, act, act_at, deed, after_take}
+use Rattle.rast_items.specs.Step.{Halted, Cut, cut, is_proc, is_msg, take_from, take_it, take_client, take_provider, move_it, move_client, move_provider, does, at_item, at_cut, step}
 use Rattle.rast_order.proofs.Words.{Link, Pid, Item, P, M, Proc, Msg, Client, Provider, Body, Label, Chan, Nat, Assert, Pay}
 
 abbrev IsGreat : Deed → Type 0

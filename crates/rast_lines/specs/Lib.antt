@@ -1,4 +1,3 @@
-pub mod Texts
 pub mod Places
 pub mod Naming
 pub mod Lines

@@ -6,20 +6,18 @@ use Rattle.rast_terms.specs.declared.node.Node.{Node}
 use Rattle.rast_terms.specs.declared.node.Node.TheVariants as node
 use Rattle.rast_types.specs.declared.ty.Kind.{Kind}
 use Rattle.rast_types.specs.declared.ty.Kind.TheVariants as kind
-use Rattle.rast_types.specs.declared.stop.Stop.{Stop}
 use Rattle.rast_equal.specs.declared.answer.Part.{Part}
 use Rattle.rast_equal.specs.declared.answer.Part.TheVariants.{Label, First, Second, Inner}
 use Rattle.rast_equal.specs.declared.answer.SameErr.{SameErr}
 use Rattle.rast_equal.specs.declared.answer.SameErr.TheVariants as same
 use Rattle.rast_equal.specs.declared.validity.TypeErr.{TypeErr}
 use Rattle.rast_equal.specs.declared.validity.TypeErr.TheVariants as type
-use Rattle.rast_equal.specs.declared.equations.EquationErr.{EquationErr}
 use Rattle.rast_rules.specs.declared.premise.Evidence.{Evidence}
 use Rattle.rast_rules.specs.declared.premise.Evidence.TheVariants as why
 use Rattle.rast_check.specs.declared.answer.CheckErr.{CheckErr}
 use Rattle.rast_check.specs.declared.answer.CheckErr.TheVariants as refusal
-use Rattle.rast_lines.specs.Texts.{Text, name_text, decl_text, def_text, or_none}
-use Rattle.rast_lines.specs.Naming.{Names, names_at}
+use Rattle.rast_terms.specs.Texts.{Text, name_text, decl_text, def_text}
+use Rattle.rast_lines.specs.Naming.{Names, names_at, or_none}
 use Rattle.rast_lines.specs.Places.{decl_of}
 
 -- ---- values of variables

@@ -9,7 +9,12 @@ use Rattle.rast_terms.specs.declared.node.Node.{Node}
 use Rattle.rast_terms.specs.declared.node.Node.TheVariants as node
 pub use Rattle.rast_lines.specs.declared.names.Names.{Names}
 use Rattle.rast_lines.specs.Places.{decl_of, nodes_above}
-use Rattle.rast_lines.specs.Texts.{Text, name_text, or_none}
+use Rattle.rast_terms.specs.Texts.{Text, name_text}
+
+-- a list of numbers of names, where there is one
+abbrev pub or_none : Option (List ℕ) → List ℕ
+or_none None = []
+or_none (Some ns) = ns
 
 -- a name, `_` and a number
 abbrev pub numbered_name : Text → ℕ → Text

@@ -4,10 +4,10 @@ ghost use Rattle.rast_lines.specs.Lines.{kind_text, part_text, parts_text, path_
 
 use crate::names::{Names, Printed};
 use crate::valuation::put_values;
-use crate::write::{put, put_name};
+use crate::write::put;
 use rast_equal::{Part, SameErr};
 use rast_rules::Evidence;
-use rast_terms::Program;
+use rast_terms::{Program, put_name};
 use rast_types::Kind;
 use std::alloc::{AllocError, Global};
 

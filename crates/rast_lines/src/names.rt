@@ -1,8 +1,8 @@
 // The names that are printed at a node.
 ghost use Rattle.std.specs.Prelude.{◌≡◌, map, IfOk, OnOk, slice_get};
 ghost use Rattle.rast_lines.specs.Lines.{def_names, decl_names};
-ghost use Rattle.rast_lines.specs.Texts.{name_text, or_none};
-ghost use Rattle.rast_lines.specs.Naming.{numbered_name, is_taken, new_name, with_new, body_names, names_below, names_after, names_at};
+ghost use Rattle.rast_terms.specs.Texts.{name_text};
+ghost use Rattle.rast_lines.specs.Naming.{or_none, numbered_name, is_taken, new_name, with_new, body_names, names_below, names_after, names_at};
 
 use crate::place::{decl_of, nodes_above};
 use rast_terms::{Node, Program};

@@ -7,11 +7,11 @@ use crate::evidence::{put_evidence, put_same};
 use crate::names::{Printed, decl_names, def_names, names_at};
 use crate::place::{decl_of, nodes_above};
 use crate::valuation::put_values;
-use crate::write::{put, put_decl, put_def, put_number};
+use crate::write::{put, put_number};
 use rast_check::CheckErr;
 use rast_equal::{SameErr, TypeErr};
 use rast_rules::Evidence;
-use rast_terms::{Node, Program};
+use rast_terms::{Node, Program, put_decl, put_def};
 use std::alloc::{AllocError, Global};
 
 fn rule_word(node: &Node) -> &'static [u8]

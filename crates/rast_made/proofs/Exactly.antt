@@ -16,7 +16,7 @@ use Rattle.rast_terms.specs.declared.node.Node.TheVariants as node
 use Rattle.rast_terms.specs.declared.program.Program.{Program}
 use Rattle.rast_terms.specs.declared.program.Decl.{Decl}
 use Rattle.rast_made.specs.Made as made
-use Rattle.rast_made.specs.Made.{Places, after, all_placed, all_visited, are_said, below, found, is_channel, is_made_call, is_made_decl, is_made_def, is_made_equation, is_made_main, is_made_node, is_made_type, is_name, is_open, is_said, is_well_made, no_places, placed, scope_of, visited}
+use Rattle.rast_made.specs.Made.{Places, after, all_placed, all_visited, are_said, below, is_channel, is_made_call, is_made_decl, is_made_def, is_made_equation, is_made_main, is_made_node, is_made_type, is_name, is_open, is_well_made, no_places, placed, scope_of, visited}
 use Rattle.rast_made.specs.WellMade.{AreSaid, IsMadeCall, IsMadeDecl, IsMadeDef, IsMadeEquation, IsMadeMain, IsMadeNode, IsMadeType, IsWellMade, StandsIn, at_child, at_root, names_of_channels, names_of_decl, names_of_def}
 use Rattle.rast_made.specs.declared.scope.Scope.{Scope}
 use Rattle.rast_made.proofs.Making.{long_places, no_place}

@@ -20,7 +20,7 @@ use Rattle.rast_terms.specs.declared.node.Node.TheVariants as node
 use Rattle.rast_terms.specs.declared.program.Program.{Program}
 use Rattle.rast_terms.specs.declared.program.Decl.{Decl}
 use Rattle.rast_made.specs.Made as made
-use Rattle.rast_made.specs.Made.{Places, is_made_type, is_made_def, is_made_decl, is_made_equation, is_made_main, is_made_node, is_made_call, is_channel, is_name, is_said, are_said, is_well_made, final_places, all_placed, all_visited, scope_of, no_places, below, found}
+use Rattle.rast_made.specs.Made.{Places, is_made_type, is_made_def, is_made_decl, is_made_equation, is_made_main, is_made_node, is_made_call, is_channel, is_name, is_said, are_said, is_well_made, final_places, all_placed, all_visited, scope_of, no_places, below}
 use Rattle.rast_made.specs.WellMade.{table_of, IsMadeType, IsMadeDef, IsMadeDecl, IsMadeEquation, IsMadeMain, IsMadeNode, IsMadeCall, AreSaid, StandsIn, at_root, at_child, times_placed, names_of_def, names_of_decl, names_of_channels, IsWellMade}
 use Rattle.rast_made.specs.declared.scope.Scope.{Scope}
 use Rattle.rast_made.proofs.Putting.{after_is, all_full, all_long, all_there, all_within, at, full, some_same}

@@ -10,8 +10,6 @@ mod quantifiers;
 mod said;
 mod scope;
 mod tables;
-#[cfg(test)]
-mod tests;
 
 pub use program::well_made;
 pub use scope::Scope;

@@ -1,8 +1,8 @@
 -- Files are read exactly.
 use Rattle.std.proofs.Common.{◌≡◌, ℕ, ◌-◌, Bool, true, false, ◌&&◌, List, [], ◌∷◌, ◌++◌, map, Option, Some, None, ap, ap₂, sym, ◌∙◌, refl, subst, ◌⊎◌, inl, inr, append_assoc}
-use Rattle.rast_forms.specs.Words.{Word, Name, Fixed, all_true}
-use Rattle.rast_forms.specs.Marks.{Mark, joined, plain}
-use Rattle.rast_forms.specs.Reading.{Reader, seq_read, nil_read, alt_read, all_read, as_read, choice_read, guarded_read}
+use Rattle.rast_forms.specs.Words.{Name, Fixed, all_true}
+use Rattle.rast_forms.specs.Marks.{Mark, plain}
+use Rattle.rast_forms.specs.Reading.{Reader, seq_read, nil_read, alt_read, as_read, choice_read, guarded_read}
 use Rattle.rast_forms.proofs.Forms.{Form as Shape, Exact}
 use Rattle.rast_forms.proofs.One.{name, name_exact, fixed_exact}
 use Rattle.rast_forms.proofs.Sequence.{seq, seq_exact, nil, nil_exact}
@@ -24,16 +24,16 @@ use Rattle.rast_ast.specs.declared.file.Item.{Item}
 use Rattle.rast_ast.specs.declared.file.Item.TheVariants as item
 use Rattle.rast_ast.specs.declared.file.Channel.{Channel}
 use Rattle.rast_ast.specs.Types.{type_fits}
-use Rattle.rast_ast.specs.Files.{params_marks, channel_marks, uses_marks, potential_marks, premise_marks, item_marks, file_marks, premise_fits, item_fits, file_fits}
+use Rattle.rast_ast.specs.Files.{channel_marks, uses_marks, potential_marks, premise_marks, item_marks, file_marks, premise_fits, item_fits, file_fits}
 use Rattle.rast_parse.specs.LinearReading.{is, fixed_read, name_read, lin_read}
 use Rattle.rast_parse.specs.FormulaReading.{behind_kind, form_read}
-use Rattle.rast_parse.specs.TypeReading.{between_kinds, before_kind, braced_read, type_read}
+use Rattle.rast_parse.specs.TypeReading.{braced_read, type_read}
 use Rattle.rast_parse.specs.ProcessReading.{flag_read, names_read, optional_by_read, proc_read}
-use Rattle.rast_parse.specs.FileReading.{params_read, to_channel, channel_by, further_channels, to_uses, uses_by, to_some, potential_by, premise_by, def_by, decl_by, heading_read, proc_item_by, context_by, sides_by, eq_by, exec_read, plain_item_by, item_by, item_read, item_first, items_read, to_file, file_read}
+use Rattle.rast_parse.specs.FileReading.{params_read, to_channel, channel_by, further_channels, to_uses, uses_by, to_some, potential_by, premise_by, def_by, decl_by, heading_read, context_by, sides_by, eq_by, plain_item_by, item_read, item_first, items_read, to_file, file_read}
 use Rattle.rast_parse.proofs.Choices.{alt_choice}
 use Rattle.rast_parse.proofs.Fusions.{then_fused, ending, ending_exact}
 use Rattle.rast_parse.proofs.Trees.{all_true_of, and_true}
-use Rattle.rast_parse.proofs.LinearExact.{bars, word, lin_form}
+use Rattle.rast_parse.proofs.LinearExact.{bars, word}
 use Rattle.rast_parse.proofs.FormulasExact.{form_form}
 use Rattle.rast_parse.proofs.FormulaLimit.{form_exact}
 use Rattle.rast_parse.proofs.TypesExact.{braced_lin, braced_exact, type_form, one_type}

@@ -1,7 +1,7 @@
 -- Readers of several parts under another type.
-use Rattle.std.proofs.Common.{◌≡◌, ℕ, suc, Bool, true, false, cond, ◌&&◌, List, [], ◌∷◌, ◌++◌, ap, refl}
-use Rattle.rast_forms.specs.Words.{Word, Fixed, is_within, is_apart}
-use Rattle.rast_forms.specs.Marks.{Mark, plain}
+use Rattle.std.proofs.Common.{◌≡◌, ℕ, suc, Bool, true, false, cond, ◌&&◌, List, [], ◌∷◌, ◌++◌, refl}
+use Rattle.rast_forms.specs.Words.{Fixed, is_within, is_apart}
+use Rattle.rast_forms.specs.Marks.{plain}
 use Rattle.rast_forms.specs.Reading.{Read, Done, Bad, Reader, ◌>>=◌, one_read, get_fixed, seq_read, as_read}
 use Rattle.rast_forms.proofs.Forms.{Form, Exact}
 use Rattle.rast_forms.proofs.Sets.{within_refl}

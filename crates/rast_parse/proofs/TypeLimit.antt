@@ -1,13 +1,12 @@
 -- Where no type may open, and types at each depth.
 use Rattle.std.proofs.Common.{◌≡◌, ℕ, zero, suc, ◌-◌, ◌<◌, Bool, true, false, ◌&&◌, ◌||◌, ◌==◌, List, [], ◌∷◌, ◌++◌, ap, sym, ◌∙◌, refl, subst, ◌⊎◌, inl, inr, arith}
 use Rattle.std.proofs.lemmas.Bool.{eqb-true}
-use Rattle.rast_forms.specs.Words.{Word, Name, Number, Fixed, key_of, is_in}
+use Rattle.rast_forms.specs.Words.{Word, Name, Number, Fixed, is_in}
 use Rattle.rast_forms.specs.Marks.{Mark, bare, starred, highest}
-use Rattle.rast_forms.specs.Reading.{Why, Syntax, TooDeep, Read, Bad, limited}
-use Rattle.rast_forms.proofs.Forms.{Form as Shape, Exact, Begins, IsDeep, Right}
+use Rattle.rast_forms.specs.Reading.{Syntax, Bad, limited}
+use Rattle.rast_forms.proofs.Forms.{Exact, Begins, Right}
 use Rattle.rast_forms.proofs.Marking.{bare-starred}
 use Rattle.rast_forms.proofs.Shapes.{Opens, limit_deep, limit_wrong}
-use Rattle.rast_ast.specs.Kinds.{code}
 use Rattle.rast_ast.specs.declared.kind.Kind.TheVariants as kind
 use Rattle.rast_ast.specs.declared.term.Lin.{Lin}
 use Rattle.rast_ast.specs.declared.term.Term.TheVariants as term

@@ -1,9 +1,9 @@
 -- Types are read exactly.
-use Rattle.std.proofs.Common.{◌≡◌, ℕ, zero, suc, ◌-◌, Bool, true, false, ◌&&◌, ◌==◌, cond, List, [], ◌∷◌, ◌++◌, map, Option, Some, None, ap, ap₂, sym, ◌∙◌, refl, subst, ◌⊎◌, inl, inr, append-nil}
+use Rattle.std.proofs.Common.{◌≡◌, ℕ, suc, ◌-◌, Bool, true, false, ◌&&◌, ◌==◌, cond, List, [], ◌∷◌, ◌++◌, map, Some, None, ap, ap₂, sym, ◌∙◌, refl, subst, ◌⊎◌, inl, inr, append-nil}
 use Rattle.std.proofs.lemmas.Bool.{eqb-true}
 use Rattle.rast_forms.specs.Words.{Word, Name, Number, Fixed, all_true}
-use Rattle.rast_forms.specs.Marks.{Mark, bare, starred, joined, plain}
-use Rattle.rast_forms.specs.Reading.{Reader, seq_read, nil_read, alt_read, all_read, as_read, choice_read}
+use Rattle.rast_forms.specs.Marks.{Mark, starred, joined, plain}
+use Rattle.rast_forms.specs.Reading.{Reader, seq_read, nil_read, alt_read, as_read, choice_read}
 use Rattle.rast_forms.proofs.Forms.{Form as Shape, Exact}
 use Rattle.rast_forms.proofs.One.{name, one, one_exact, name_exact, fixed_exact}
 use Rattle.rast_forms.proofs.Sequence.{seq, seq_exact, nil, nil_exact}
@@ -26,9 +26,9 @@ use Rattle.rast_ast.specs.declared.type_expr.Choice.{Choice}
 use Rattle.rast_ast.specs.declared.type_expr.Atom.TheOpen.{TypeExpr-F, Atom-F, Prefixed, Atom as Alone, Tensor, Lolli, One, Plus, With, Named, Group}
 use Rattle.rast_ast.specs.declared.type_expr.Atom.TheFolds.{fold-roll-TypeExpr, fold-roll-Atom, fold-roll-Choice}
 use Rattle.rast_ast.specs.Types.{prefix_marks, type_step, atom_step, choice_step, type_marks, atom_marks, choice_marks, prefix_fits, type_proper, atom_proper, choice_proper, type_fits, atom_fits, choice_fits}
-use Rattle.rast_parse.specs.LinearReading.{is, fixed_read, name_read, lin_read}
+use Rattle.rast_parse.specs.LinearReading.{is, name_read, lin_read}
 use Rattle.rast_parse.specs.FormulaReading.{behind_kind, form_read}
-use Rattle.rast_parse.specs.TypeReading.{then_read, before_kind, between_kinds, braced_read, args_read, Quantified, to_exists, to_all, quantified_read, RawPrefix, to_prefix, exists_by, all_by, pays_by, gets_by, prefix_by, prefix_first, labelled_by, further_labelled, to_choice, choice_by, get_one, one_read_1, RawAtom, to_atom, unit_read, plus_by, with_by, named_by, atom_by, Tail, with_tail, after_by, prefixed_by, next_one_by, next_by, group_type_by, inside_by, type_by, type_first}
+use Rattle.rast_parse.specs.TypeReading.{then_read, before_kind, between_kinds, braced_read, args_read, Quantified, quantified_read, RawPrefix, to_prefix, exists_by, all_by, prefix_by, prefix_first, labelled_by, to_choice, choice_by, get_one, one_read_1, RawAtom, to_atom, unit_read, plus_by, atom_by, Tail, with_tail, after_by, prefixed_by, next_one_by, next_by, inside_by, type_by, type_first}
 use Rattle.rast_parse.proofs.Choices.{alt_choice}
 use Rattle.rast_parse.proofs.Fusions.{map_first, then_fused, then_mapped, behind_fused, ending, ending_exact}
 use Rattle.rast_parse.proofs.Trees.{map-map, all_true_of, and_true}

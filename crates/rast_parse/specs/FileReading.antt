@@ -1,13 +1,11 @@
 -- Reading files.
 use Rattle.std.specs.Prelude.{ℕ, Bool, true, false, List, [], ◌∷◌, ◌++◌, ◌⊎◌, Option, Some, None}
 use Rattle.std.proofs.Common.{inl, inr}
-use Rattle.rast_forms.specs.Words.{Word}
 use Rattle.rast_forms.specs.Reading.{Reader, seq_read, nil_read, all_read, as_read, choice_read}
 use Rattle.rast_ast.specs.declared.kind.Kind.TheVariants as kind
 use Rattle.rast_ast.specs.declared.term.Lin.{Lin}
 use Rattle.rast_ast.specs.declared.form.Form.{Form}
 use Rattle.rast_ast.specs.declared.type_expr.TypeExpr.{TypeExpr}
-use Rattle.rast_ast.specs.declared.process.By.{By}
 use Rattle.rast_ast.specs.declared.process.Proc.{Proc}
 use Rattle.rast_ast.specs.declared.file.File.{File}
 use Rattle.rast_ast.specs.declared.file.Item.{Item}

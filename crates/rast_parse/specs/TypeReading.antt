@@ -1,8 +1,8 @@
 -- Reading types.
 use Rattle.std.specs.Prelude.{ℕ, zero, suc, Bool, true, false, ◌&&◌, ◌||◌, ◌==◌, cond, List, [], ◌∷◌, ◌++◌, ◌⊎◌, Option, Some, None}
 use Rattle.std.proofs.Common.{inl, inr}
-use Rattle.rast_forms.specs.Words.{Word, Name, Number, Fixed, is_in, starts}
-use Rattle.rast_forms.specs.Reading.{Why, Syntax, TooDeep, Read, Done, Bad, Reader, ◌>>=◌, one_read, seq_read, nil_read, alt_read, all_read, as_read, choice_read, limited}
+use Rattle.rast_forms.specs.Words.{Word, Name, Number, Fixed, is_in}
+use Rattle.rast_forms.specs.Reading.{Reader, ◌>>=◌, one_read, seq_read, nil_read, alt_read, all_read, as_read, choice_read, limited}
 use Rattle.rast_ast.specs.declared.kind.Kind.{Kind}
 use Rattle.rast_ast.specs.declared.kind.Kind.TheVariants as kind
 use Rattle.rast_ast.specs.declared.term.Lin.{Lin}

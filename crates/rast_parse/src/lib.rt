@@ -7,11 +7,7 @@ mod formula;
 mod linear;
 mod outcome;
 mod process;
-#[cfg(test)]
-mod process_tests;
 mod statement;
-#[cfg(test)]
-mod tests;
 mod type_expr;
 
 pub use outcome::{ParseErr, parse, parse_form};

@@ -1,7 +1,7 @@
 -- The canonical text of a file is read again as the file, and no other file has it.
-use Rattle.std.proofs.Common.{◌≡◌, ℕ, max, ◌≤◌, true, List, [], subst, ap, sym, ◌∙◌, arith}
+use Rattle.std.proofs.Common.{◌≡◌, ℕ, max, ◌≤◌, List, [], subst, ap, sym, ◌∙◌, arith}
 use Rattle.rast_forms.specs.Marks.{highest}
-use Rattle.rast_forms.specs.Reading.{Read, Done, whole_read}
+use Rattle.rast_forms.specs.Reading.{Done, whole_read}
 use Rattle.rast_ast.specs.declared.file.File.{File}
 use Rattle.rast_ast.specs.Files.{file_marks, file_fits, spelled}
 use Rattle.rast_lex.specs.declared.token.Token.{Token}

@@ -7,8 +7,6 @@ mod linear;
 mod process;
 mod put;
 mod reading;
-#[cfg(test)]
-mod tests;
 mod type_expr;
 
 pub use file::print;

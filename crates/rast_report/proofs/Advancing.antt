@@ -1,15 +1,15 @@
 -- A value is printed item by item.
-use Rattle.std.proofs.Common.{◌≡◌, ℕ, zero, suc, ◌+◌, ◌-◌, ◌<◌, ◌≤◌, Bool, true, false, ◌&&◌, List, [], ◌∷◌, ◌++◌, Option, Some, None, length, get_or, drop, sym, ◌∙◌, ap, ap₂, refl, arith, add-one, append_assoc, codes, subst}
+use Rattle.std.proofs.Common.{◌≡◌, ℕ, zero, suc, ◌+◌, ◌-◌, ◌<◌, ◌≤◌, true, ◌&&◌, List, [], ◌∷◌, ◌++◌, Option, Some, None, length, get_or, drop, sym, ◌∙◌, ap, ap₂, refl, arith, add-one, append_assoc, codes, subst}
 use Rattle.std.proofs.lemmas.List.{drop_all}
 use Rattle.std.proofs.Math.Seq.{drop-cons}
 use Rattle.rast_terms.specs.declared.program.Program.{Program}
-use Rattle.rast_core.specs.Words.{Link, Item, P, M, Msg}
+use Rattle.rast_core.specs.Words.{Link, Item, M, Msg}
 use Rattle.rast_core.specs.Shown.{Shown}
 use Rattle.rast_items.specs.Links.{same_link}
-use Rattle.rast_report.specs.Texts.{Text}
+use Rattle.rast_terms.specs.Texts.{Text}
 use Rattle.rast_report.specs.Values.{value_from, message_text, is_client}
 use Rattle.rast_report.specs.Waiting.{waiting_text, behind}
-use Rattle.rast_report.specs.Turns.{value_at, all_text, triple, weight, load, Advances, Goes, GoesOn, After, TurnsAt, GoesBack}
+use Rattle.rast_report.specs.Turns.{value_at, all_text, triple, weight, load, Advances, Goes, TurnsAt, GoesBack}
 use Rattle.rast_report.specs.declared.printing.Waiting.{Waiting}
 use Rattle.rast_report.specs.declared.printing.Turn.{Turn}
 use Rattle.rast_report.specs.declared.printing.Turn.TheVariants as turn

@@ -1,5 +1,5 @@
 -- What a process shows, by what is answered of it.
-use Rattle.std.proofs.Common.{◌≡◌, Bool, true, false, List, ℕ, refl, sym, ap, ◌∙◌, codes}
+use Rattle.std.proofs.Common.{◌≡◌, Bool, true, false, refl, sym, ap, ◌∙◌, codes}
 use Rattle.rast_core.specs.Words.{Link}
 use Rattle.rast_items.specs.Links.{same_link}
 use Rattle.rast_items.specs.Step.{Next as Does, Ready, Waits, Halted, Ended, Stuck}

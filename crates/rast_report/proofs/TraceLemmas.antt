@@ -1,5 +1,5 @@
 -- The lines of a trace, one after another, and what is kept of what messages hold.
-use Rattle.std.proofs.Common.{◌≡◌, ℕ, ◌+◌, ◌<◌, ◌≤◌, Bool, true, false, cond, List, [], ◌∷◌, ◌++◌, Some, refl, sym, ap, ap₂, ◌∙◌, subst, arith, length, take, drop, get_or, reverse, append_assoc, if◌then◌else◌}
+use Rattle.std.proofs.Common.{◌≡◌, ℕ, ◌+◌, ◌<◌, ◌≤◌, Bool, true, false, cond, List, [], ◌∷◌, ◌++◌, Some, refl, sym, ap, ap₂, ◌∙◌, length, take, drop, reverse, append_assoc, if◌then◌else◌}
 use Rattle.std.specs.Prelude.{slice_get, codes, ◌&&◌, ◌==◌, Option}
 use Rattle.std.specs.Fmt.{decimal}
 use Rattle.std.specs.Option.{unwrap_or}
@@ -11,10 +11,11 @@ use Rattle.std.specs.BTreeMap.{Updates, get}
 use Rattle.std.proofs.lemmas.List.{take_more, drop_more, reverse-append}
 use Rattle.std.proofs.lemmas.Option.{slice_get_within, get_or_from_slice_get}
 use Rattle.rast_terms.specs.declared.program.Program.{Program}
-use Rattle.rast_core.specs.Words.{Link, Pid, Body, Event, Send, Take, Move, Spawn, Call, Work, Delay}
+use Rattle.rast_core.specs.Words.{Link, Event, Send, Take, Move, Spawn, Call, Work, Delay}
 use Rattle.rast_items.specs.Links.{same_link}
 use Rattle.rast_items.specs.Run.{pid_of, moment_of}
-use Rattle.rast_report.specs.Texts.{Text, pid_text, link_text, body_text}
+use Rattle.rast_terms.specs.Texts.{Text}
+use Rattle.rast_report.specs.Texts.{pid_text, link_text}
 use Rattle.rast_report.specs.Reports.{amount_on, spaced, at_moment, verb, message_line, object_text, event_text, trace_line, trace_from}
 use Rattle.rast_report.specs.Amounts.{key, key_cmp, kept_on, AreKept, Keeps}
 use Rattle.rast_report.specs.declared.amounts.Amounts.{Amounts}

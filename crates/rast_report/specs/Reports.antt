@@ -2,14 +2,15 @@
 use Rattle.std.specs.Prelude.{ℕ, ◌+◌, Bool, List, [], ◌∷◌, ◌++◌, length, codes, if◌then◌else◌}
 use Rattle.std.specs.Fmt.{decimal}
 use Rattle.rast_terms.specs.declared.program.Program.{Program}
-use Rattle.rast_core.specs.Words.{Link, Pid, Body, Event, Send, Take, Move, Spawn, Call, Work, Delay}
+use Rattle.rast_core.specs.Words.{Link, Body, Event, Send, Take, Move, Spawn, Call, Work, Delay}
 use Rattle.rast_items.specs.Items.{held}
 use Rattle.rast_items.specs.Links.{same_link}
 use Rattle.rast_items.specs.Run.{work, time, pid_of, moment_of}
 use Rattle.rast_core.specs.Shown.{Shown}
 use Rattle.rast_core.specs.declared.answer.Outcome.{Outcome}
 use Rattle.rast_core.specs.declared.answer.Outcome.TheVariants.{Running, Finished, OutOfBudget, IndexLimit}
-use Rattle.rast_report.specs.Texts.{Text, pid_text, link_text, body_text, decl_text}
+use Rattle.rast_terms.specs.Texts.{Text, decl_text}
+use Rattle.rast_report.specs.Texts.{pid_text, link_text, body_text}
 use Rattle.rast_report.specs.Values.{value_text}
 
 -- the amount that a payment on this link held, after these events, the newest first

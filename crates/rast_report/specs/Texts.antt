@@ -1,28 +1,9 @@
--- The texts of numbers, names, links and bodies.
-use Rattle.std.specs.Prelude.{ℕ, List, [], ◌∷◌, ◌++◌, codes, Option, Some, None, slice_get}
+-- The texts of processes, links and bodies.
+use Rattle.std.specs.Prelude.{ℕ, ◌++◌, codes}
 use Rattle.std.specs.Fmt.{decimal}
 use Rattle.rast_terms.specs.declared.program.Program.{Program}
-use Rattle.rast_terms.specs.declared.program.Decl.{Decl}
+use Rattle.rast_terms.specs.Texts.{Text, name_text}
 use Rattle.rast_core.specs.Words.{Link, Pid, Body, Label, End, Chan, Nat, Assert, Pay}
-
-abbrev pub Text : Type 0
-Text = List ℕ
-
-abbrev pub or_nothing : Option Text → Text
-or_nothing None = []
-or_nothing (Some t) = t
-
--- the name of a number
-abbrev pub name_text : Program → ℕ → Text
-name_text g n = or_nothing (slice_get g.names n)
-
-abbrev pub decl_in : Program → Option Decl → Text
-decl_in g None = []
-decl_in g (Some d) = name_text g d.name
-
--- the name of a declaration
-abbrev pub decl_text : Program → ℕ → Text
-decl_text g k = decl_in g (slice_get g.decls k)
 
 -- `p` and the number
 abbrev pub pid_text : Pid → Text

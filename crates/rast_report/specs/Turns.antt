@@ -5,7 +5,7 @@ use Rattle.rast_core.specs.Words.{Link, Msg}
 use Rattle.rast_report.specs.declared.printing.Turn.{Turn}
 use Rattle.rast_report.specs.declared.printing.Turn.TheVariants as turn
 use Rattle.rast_core.specs.Shown.{Shown}
-use Rattle.rast_report.specs.Texts.{Text}
+use Rattle.rast_terms.specs.Texts.{Text}
 use Rattle.rast_report.specs.Values.{value_from, message_text}
 use Rattle.rast_report.specs.Waiting.{waiting_text}
 use Rattle.rast_report.specs.declared.printing.Waiting.{Waiting}

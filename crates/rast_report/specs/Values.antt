@@ -1,11 +1,12 @@
 -- The printed value of a configuration: what main's channel holds for a client.
 use Rattle.std.specs.Prelude.{ℕ, Bool, true, false, ◌&&◌, List, [], ◌∷◌, ◌++◌, codes, if◌then◌else◌}
 use Rattle.rast_terms.specs.declared.program.Program.{Program}
-use Rattle.rast_core.specs.Words.{Link, Pid, Side, Client, Provider, Body, Label, End, Chan, Nat, Assert, Pay, Msg, Item, P, M, Proc}
+use Rattle.rast_core.specs.Words.{Link, Side, Client, Provider, Body, Label, End, Chan, Nat, Assert, Pay, Item, P, M, Proc}
 use Rattle.rast_items.specs.Links.{same_link, link_at}
 use Rattle.rast_items.specs.Step.{Next, Waits}
 use Rattle.rast_core.specs.Shown.{Shown, next_of}
-use Rattle.rast_report.specs.Texts.{Text, body_text}
+use Rattle.rast_terms.specs.Texts.{Text}
+use Rattle.rast_report.specs.Texts.{body_text}
 
 abbrev pub is_waiting : Link → Next → Bool
 is_waiting l (Waits k) = same_link k l

@@ -2,7 +2,7 @@
 use Rattle.std.specs.Prelude.{List, [], ◌∷◌, ◌++◌, codes, drop}
 use Rattle.rast_terms.specs.declared.program.Program.{Program}
 use Rattle.rast_core.specs.Shown.{Shown}
-use Rattle.rast_report.specs.Texts.{Text}
+use Rattle.rast_terms.specs.Texts.{Text}
 use Rattle.rast_report.specs.Values.{value_from}
 use Rattle.rast_report.specs.declared.printing.Waiting.{Waiting}
 

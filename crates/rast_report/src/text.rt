@@ -1,10 +1,10 @@
-// Texts of numbers, names, links and bodies, put behind what is written.
+// Texts of numbers, processes, links and bodies, put behind what is written.
 ghost use Rattle.std.specs.Prelude.{◌≡◌, ◌++◌, OnOk};
 ghost use Rattle.std.specs.Fmt.{decimal};
-ghost use Rattle.rast_report.specs.Texts.{name_text, decl_text, pid_text, link_text, body_text, sent_text, braced};
+ghost use Rattle.rast_report.specs.Texts.{pid_text, link_text, body_text, sent_text, braced};
 
 use rast_items::{Body, Link, Pid};
-use rast_terms::Program;
+use rast_terms::{Program, put_name};
 use std::alloc::{AllocError, Global};
 
 // Puts a text behind what is written.
@@ -19,24 +19,6 @@ pub(crate) fn put_number(alloc: Global, text: &mut Vec<u8>, number: u128) -> Res
 {
     let digits = format!(in alloc; "{number}")?;
     text.extend_from_slice(digits.as_bytes())
-}
-
-pub(crate) fn put_name(text: &mut Vec<u8>, program: &Program, name: u32) -> Result<(), AllocError>
-    ensures { OnOk result (text.new.items ≡ text.old.items ++ name_text program.now name) }
-{
-    match program.names.get(name as usize) {
-        Some(name) => text.extend_from_slice(name.as_bytes()),
-        None => Ok(()),
-    }
-}
-
-pub(crate) fn put_decl(text: &mut Vec<u8>, program: &Program, decl: u32) -> Result<(), AllocError>
-    ensures { OnOk result (text.new.items ≡ text.old.items ++ decl_text program.now decl) }
-{
-    match program.decls.get(decl as usize) {
-        Some(decl) => put_name(text, program, decl.name),
-        None => Ok(()),
-    }
 }
 
 pub(crate) fn put_pid(alloc: Global, text: &mut Vec<u8>, pid: Pid) -> Result<(), AllocError>

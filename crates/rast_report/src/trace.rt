@@ -6,9 +6,9 @@ ghost use Rattle.rast_report.specs.Amounts.{kept_on};
 
 use crate::amounts::Amounts;
 use crate::sums::moment_of;
-use crate::text::{put, put_body, put_decl, put_link, put_number, put_pid};
+use crate::text::{put, put_body, put_link, put_number, put_pid};
 use rast_items::{Body, Event, Link, Pid};
-use rast_terms::Program;
+use rast_terms::{Program, put_decl};
 use std::alloc::{AllocError, Global};
 
 /// Puts a line for each event, numbered from 1, where a trace is asked for.
@@ -123,9 +123,9 @@ fn put_object(
         Event::Spawn { child, decl, .. } => {
             put_pid(alloc, text, child)?;
             put(text, b" ")?;
-            put_decl(text, program, decl)
+            put_decl(text, program, decl as usize)
         }
-        Event::Call { decl, .. } => put_decl(text, program, decl),
+        Event::Call { decl, .. } => put_decl(text, program, decl as usize),
         Event::Work { amount, .. } => put_number(alloc, text, amount),
         Event::Delay { ticks, .. } => put_number(alloc, text, ticks),
     }

@@ -22,8 +22,6 @@ mod sizes;
 mod steps;
 mod tables;
 mod terms;
-#[cfg(test)]
-mod tests;
 mod types;
 
 pub use fault::NameErr;

@@ -1,9 +1,9 @@
 -- What is dealt out at a spawn and at a call.
-use Rattle.std.proofs.Common.{◌≡◌, ℕ, zero, suc, ◌+◌, ◌-◌, ◌<◌, ◌≤◌, min, Bool, true, false, not, ◌||◌, ◌&&◌, ◌==◌, if◌then◌else◌, List, [], ◌∷◌, ◌++◌, map, zip, length, take, drop, get_or, Option, Some, None, Result, Ok, Err, sym, ◌∙◌, ap, ap₂, refl, subst, arith, add-one, nat_eq, inl, inr, eq-eqb}
+use Rattle.std.proofs.Common.{◌≡◌, ℕ, zero, suc, ◌+◌, ◌-◌, ◌<◌, ◌≤◌, min, Bool, true, false, not, ◌||◌, ◌&&◌, ◌==◌, if◌then◌else◌, List, [], ◌∷◌, ◌++◌, map, zip, length, take, drop, get_or, Option, Some, Result, Ok, Err, sym, ◌∙◌, ap, ap₂, refl, arith, add-one, nat_eq, inl, inr, eq-eqb}
 use Rattle.std.proofs.Math.Seq.{drop-cons, take-suc}
 use Rattle.std.proofs.lemmas.Bool.{cases_lt, ne_eqb}
 use Rattle.std.proofs.lemmas.Bool.Decides.{nat_tests}
-use Rattle.std.proofs.lemmas.List.{append-nil, take_all, drop_all, length-map, length-drop}
+use Rattle.std.proofs.lemmas.List.{take_all, drop_all, length-drop}
 use Rattle.std.proofs.lemmas.List.Folds.{list_any-append}
 use Rattle.std.specs.Prelude.{is_some}
 use Rattle.std.specs.List.{list_any}
@@ -15,7 +15,6 @@ use Rattle.rast_types.specs.declared.ty.Ty.{Ty}
 use Rattle.rast_types.specs.Symbolic.{made_type}
 use Rattle.rast_equal.specs.Valid.{nonneg}
 use Rattle.rast_equal.specs.Walk.{meets, count, top}
-use Rattle.rast_rules.specs.declared.premise.Premise.{Premise}
 use Rattle.rast_rules.specs.declared.premise.Premise.TheVariants.{Shape, Same, Passed}
 use Rattle.rast_rules.specs.declared.premise.Evidence.TheVariants.{Linear as WLinear}
 use Rattle.rast_rules.specs.Rules.{Decl, Judgement, Asked, Askings, Is, Shaped, Alike, is_alike, deal, share, failure, same_or_passed, are_used, is_new, is_provided, used_type, arg_asked, at_args, spawn_asked, call_asked, none_left, without}

@@ -1,8 +1,8 @@
 -- How many references a walk takes.
-use Rattle.std.proofs.Common.{◌≡◌, ℕ, zero, suc, ◌+◌, ◌-◌, ◌<◌, ◌≤◌, min, Bool, true, false, not, ◌==◌, ◌&&◌, ◌||◌, if◌then◌else◌, List, [], ◌∷◌, ◌++◌, map, length, drop, get_or, Option, Some, None, sym, ◌∙◌, ap, ap₂, refl, subst, arith, add-one}
+use Rattle.std.proofs.Common.{◌≡◌, ℕ, suc, ◌+◌, ◌-◌, ◌<◌, ◌≤◌, min, Bool, true, false, ◌==◌, ◌&&◌, ◌||◌, if◌then◌else◌, List, [], ◌∷◌, ◌++◌, map, length, drop, get_or, Option, Some, sym, ◌∙◌, ap, ap₂, refl, arith, add-one}
 use Rattle.std.proofs.Math.Seq.{drop-cons}
 use Rattle.std.proofs.lemmas.List.{drop_all}
-use Rattle.std.specs.Prelude.{is_some, flat_map, nat_lt, cond}
+use Rattle.std.specs.Prelude.{is_some, flat_map, nat_lt}
 use Rattle.std.specs.List.{list_all}
 use Rattle.std.proofs.lemmas.Bool.Decides.{nat_tests}
 use Rattle.rast_index.specs.Keys.{find_key}
@@ -12,14 +12,14 @@ use Rattle.rast_index.specs.declared.formula.Formula.{Formula}
 use Rattle.rast_types.specs.declared.ty.Ty.{Ty, out-Ty, roll-Ty, roll-out-Ty}
 use Rattle.rast_types.specs.declared.ty.Ty.TheVariants as ty
 use Rattle.rast_types.specs.declared.ty.Ty.TheOpen.{Ty-F, One, Plus, With, Tensor, Lolli, Named, Ex, All, Assert, Assume, Pays, Gets, Next}
-use Rattle.rast_types.specs.declared.ty.Ty.TheFolds.{map-Ty, fold-Ty, fold-roll-Ty}
+use Rattle.rast_types.specs.declared.ty.Ty.TheFolds.{map-Ty}
 use Rattle.rast_types.specs.Closed.{Layer}
 use Rattle.rast_types.specs.Symbolic.{is_name, is_next, is_next_layer, timed}
-use Rattle.rast_types.proofs.Binders.{Such, bare, induction}
+use Rattle.rast_equal.proofs.Walks.{walk_at, peel_next as next_peeled, peel_none as none_peeled}
 use Rattle.rast_equal.specs.declared.place.Place.{Place}
 use Rattle.rast_equal.specs.declared.met.Met.{Met}
 use Rattle.rast_equal.specs.declared.met.Met.TheVariants.{Wants, Names, Differs, Shuffled, Over}
-use Rattle.rast_equal.specs.Walk.{Walker, walker, walk_from, walk_layer, tree_of, meets, count, top, Peeled, peeled, peel_layer, at_rest, heads, all_of, choices, is_among, at_label, same_list, Heads, down, bind, under, both}
+use Rattle.rast_equal.specs.Walk.{Walker, walker, walk_layer, meets, count, Peeled, peeled, at_rest, heads, all_of, choices, is_among, at_label, same_list, down}
 use Rattle.rast_equal.specs.declared.answer.Part.TheVariants.{First, Second}
 use Rattle.rast_rules.specs.declared.count.Left.{Left}
 use Rattle.rast_rules.specs.Count.{taken, met_step, after}
@@ -52,73 +52,17 @@ after_count r (Over ∷ ms) = ap (λ (l : Left). l.room) (after_over r ms) ∙ (
 pub count_by_rest : (r q : ℕ) (l : Left) (ms : List Met) → l ≡ after (left_of r false) ms → q ≡ r - l.room → q ≡ min r (count ms)
 count_by_rest r q l ms e f = let h = ap (λ (k : Left). k.room) e ∙ after_count r ms in omega (arith, h, f)
 
--- ---- trees of folds
-
-module _ (W : Type 0) (step : Ty-F W → W) (tree : W → Ty) (says : (y : Ty-F W) → tree (step y) ≡ roll-Ty (map-Ty W Ty tree y)) where
-  folded : Ty → W
-  folded = fold-Ty W step
-
-  Again : Ty → Type 0
-  Again a = tree (folded a) ≡ a
-
-  abbrev parts : List (ℕ × Such Again) → List (ℕ × Ty)
-  parts ts = map (λ e. (e.0, e.1.0)) ts
-
-  again_parts : (ts : List (ℕ × Such Again)) → map (λ (e : ℕ × W). (e.0, tree e.1)) (map (λ (e : ℕ × Ty). (e.0, folded e.1)) (parts ts)) ≡ parts ts
-  unfolding Again
-  again_parts [] = refl
-  again_parts (t ∷ ts) = ap₂ (λ a us. (t.0, a) ∷ us) t.1.1 (again_parts ts)
-
-  at : (x : Layer) → map-Ty W Ty tree (map-Ty Ty W folded x) ≡ x → Again (roll-Ty x)
-  unfolding Again folded
-  at x h = ap tree (fold-roll-Ty W step x) ∙ says (map-Ty Ty W (fold-Ty W step) x) ∙ ap roll-Ty h
-
-  again_step : (y : Ty-F (Such Again)) → Again (roll-Ty (bare Again y))
-  unfolding Again
-  again_step One = at One refl
-  again_step (Plus ts) = at (Plus (parts ts)) (ap Plus (again_parts ts))
-  again_step (With ts) = at (With (parts ts)) (ap With (again_parts ts))
-  again_step (Tensor a b) = at (Tensor a.0 b.0) (ap₂ Tensor a.1 b.1)
-  again_step (Lolli a b) = at (Lolli a.0 b.0) (ap₂ Lolli a.1 b.1)
-  again_step (Named k es) = at (Named k es) refl
-  again_step (Ex a) = at (Ex a.0) (ap Ex a.1)
-  again_step (All a) = at (All a.0) (ap All a.1)
-  again_step (Assert f a) = at (Assert f a.0) (ap (Assert f) a.1)
-  again_step (Assume f a) = at (Assume f a.0) (ap (Assume f) a.1)
-  again_step (Pays p a) = at (Pays p a.0) (ap (Pays p) a.1)
-  again_step (Gets p a) = at (Gets p a.0) (ap (Gets p) a.1)
-  again_step (Next l a) = at (Next l a.0) (ap (Next l) a.1)
-
-  pub tree_again : (a : Ty) → tree (fold-Ty W step a) ≡ a
-  unfolding Again folded
-  tree_again = induction Again again_step
-
-  -- the tree of a layer whose parts are folded
-  pub tree_layer : (x : Layer) → roll-Ty (map-Ty W Ty tree (map-Ty Ty W (fold-Ty W step) x)) ≡ roll-Ty x
-  tree_layer x = sym (says (map-Ty Ty W (fold-Ty W step) x)) ∙ ap tree (sym (fold-roll-Ty W step x)) ∙ tree_again (roll-Ty x)
-
 -- ---- a walk by the outside of its first type
 
 abbrev walks : Layer → Ty-F Walker
 walks x = map-Ty Ty Walker walker x
 
-abbrev walk_step : Ty-F Walker → Walker
-walk_step x = let a = tree_of x in record { tree = a; walk = walk_from x a }
-
-pub meets_at : (a b : Ty) (p : Place) → meets a b p ≡ walk_from (walks (out-Ty a)) a b p
-meets_at a b p =
-    let x = out-Ty a in
-    let e : tree_of (walks x) ≡ a = tree_layer Walker walk_step (λ w. w.tree) (λ y. refl) x ∙ roll-out-Ty a in
-    ap (λ c. (walker c).walk b p) (sym (roll-out-Ty a))
-    ∙ ap (λ (w : Walker). w.walk b p) (fold-roll-Ty Walker walk_step x)
-    ∙ ap (λ c. walk_from (walks x) c b p) e
-
 module _ (a b : Ty) (p : Place) (l : Left) where
   pub walk_over : nat_lt 16 p.vars ≡ true → record l { over = true } ≡ after l (meets a b p)
-  walk_over deep = sym (ap (after l) (meets_at a b p) ∙ ap (λ c. after l (if c then Over ∷ [] else (if is_name a || is_name b then Names p a b ∷ [] else walk_layer (walks (out-Ty a)) a b p))) deep)
+  walk_over deep = sym (ap (after l) (walk_at a b p) ∙ ap (λ c. after l (if c then Over ∷ [] else (if is_name a || is_name b then Names p a b ∷ [] else walk_layer (walks (out-Ty a)) a b p))) deep)
 
   within_scope : nat_lt 16 p.vars ≡ false → after l (meets a b p) ≡ after l (if is_name a || is_name b then Names p a b ∷ [] else walk_layer (walks (out-Ty a)) a b p)
-  within_scope shallow = ap (after l) (meets_at a b p) ∙ ap (λ c. after l (if c then Over ∷ [] else (if is_name a || is_name b then Names p a b ∷ [] else walk_layer (walks (out-Ty a)) a b p))) shallow
+  within_scope shallow = ap (after l) (walk_at a b p) ∙ ap (λ c. after l (if c then Over ∷ [] else (if is_name a || is_name b then Names p a b ∷ [] else walk_layer (walks (out-Ty a)) a b p))) shallow
 
   pub walk_name : nat_lt 16 p.vars ≡ false → (is_name a || is_name b) ≡ true → taken l ≡ after l (meets a b p)
   walk_name shallow named = sym (within_scope shallow ∙ ap (λ c. after l (if c then Names p a b ∷ [] else walk_layer (walks (out-Ty a)) a b p)) named)
@@ -162,51 +106,11 @@ module _ (a b : Ty) (p : Place) (l : Left) where
 
 -- ---- below all ticks
 
-peel_step : Ty-F Peeled → Peeled
-peel_step x = peel_layer x (roll-Ty (map-Ty Peeled Ty (λ a. a.tree) x))
-
-peel_tree : (y : Ty-F Peeled) (t : Ty) → (peel_layer y t).tree ≡ t
-peel_tree (Next l a) t = refl
-peel_tree One t = refl
-peel_tree (Plus ts) t = refl
-peel_tree (With ts) t = refl
-peel_tree (Tensor a b) t = refl
-peel_tree (Lolli a b) t = refl
-peel_tree (Named k es) t = refl
-peel_tree (Ex a) t = refl
-peel_tree (All a) t = refl
-peel_tree (Assert f a) t = refl
-peel_tree (Assume f a) t = refl
-peel_tree (Pays p a) t = refl
-peel_tree (Gets p a) t = refl
-
-peeled_at : (a : Ty) → peeled a ≡ peel_layer (map-Ty Ty Peeled peeled (out-Ty a)) a
-unfolding peel_step
-peeled_at a =
-    let x = out-Ty a in
-    let e : roll-Ty (map-Ty Peeled Ty (λ q. q.tree) (map-Ty Ty Peeled peeled x)) ≡ a = tree_layer Peeled peel_step (λ q. q.tree) (λ y. peel_tree y _) x ∙ roll-out-Ty a in
-    ap peeled (sym (roll-out-Ty a)) ∙ fold-roll-Ty Peeled peel_step x ∙ ap (peel_layer (map-Ty Ty Peeled peeled x)) e
-
 pub peel_next : (a body : Ty) (l : Linear) → out-Ty a ≡ Next l body → (peeled a).rest ≡ (peeled body).rest
-peel_next a body l is = ap (λ (q : Peeled). q.rest) (peeled_at a ∙ ap (λ x. peel_layer (map-Ty Ty Peeled peeled x) a) is)
-
-peel_other : (a : Ty) (x : Layer) → is_next_layer x ≡ false → (peel_layer (map-Ty Ty Peeled peeled x) a).rest ≡ a
-peel_other a (Next l c) h = absurd (cc)
-peel_other a One h = refl
-peel_other a (Plus ts) h = refl
-peel_other a (With ts) h = refl
-peel_other a (Tensor c d) h = refl
-peel_other a (Lolli c d) h = refl
-peel_other a (Named k es) h = refl
-peel_other a (Ex c) h = refl
-peel_other a (All c) h = refl
-peel_other a (Assert f c) h = refl
-peel_other a (Assume f c) h = refl
-peel_other a (Pays q c) h = refl
-peel_other a (Gets q c) h = refl
+peel_next a body l is = ap (λ (q : Peeled). q.rest) (next_peeled a body l is)
 
 pub peel_none : (a : Ty) → is_next a ≡ false → (peeled a).rest ≡ a
-peel_none a h = ap (λ (q : Peeled). q.rest) (peeled_at a) ∙ peel_other a (out-Ty a) h
+peel_none a h = ap (λ (q : Peeled). q.rest) (none_peeled a h)
 
 -- ---- choices
 

@@ -1,22 +1,16 @@
 -- How references are dealt out to what is asked.
-use Rattle.std.proofs.Common.{◌≡◌, ℕ, Bool, true, false, ◌||◌, ◌&&◌, if◌then◌else◌, List, [], ◌∷◌, ◌++◌, map, length, take, drop, Option, Some, None, Result, Ok, Err, sym, ◌∙◌, ap, ap₂, refl, arith}
+use Rattle.std.proofs.Common.{◌≡◌, ℕ, Bool, true, false, ◌||◌, ◌&&◌, if◌then◌else◌, List, [], ◌∷◌, ◌++◌, map, length, Option, Some, None, ◌∙◌, ap, ap₂, refl, arith}
 use Rattle.std.proofs.lemmas.List.{take_all}
-use Rattle.std.specs.Prelude.{is_some, filter}
-use Rattle.rast_index.specs.Linear.{Linear}
 use Rattle.rast_index.specs.Truth.{all_small}
 use Rattle.rast_index.specs.declared.formula.Formula.{Formula}
 use Rattle.rast_types.specs.declared.equation.Ref.{Ref}
 use Rattle.rast_types.specs.declared.ty.Ty.{Ty}
 use Rattle.rast_types.specs.declared.ty.Kind.{Kind}
-use Rattle.rast_types.specs.declared.stop.Stop.{Stop}
 use Rattle.rast_types.specs.declared.stop.Stop.TheVariants as stop
-use Rattle.rast_equal.specs.Valid.{nonneg}
-use Rattle.rast_rules.specs.declared.premise.Premise.{Premise}
-use Rattle.rast_rules.specs.declared.premise.Premise.TheVariants.{Truth, Shape, Same, Passed}
+use Rattle.rast_rules.specs.declared.premise.Premise.TheVariants.{Truth, Same, Passed}
 use Rattle.rast_rules.specs.declared.judgement.Judgement.{Judgement}
-use Rattle.rast_rules.specs.Rules.{Asked, Askings, Is, Shaped, Alike, Stopped, is_alike, share, premise_of, deal, made_truth, label_asked, has_branch, linear, are_used, none_left, head_is, used_type, is_new}
-use Rattle.rast_rules.specs.Trail.{plain, asks_sameness, truth_premise, first_channel}
-use Rattle.rast_rules.proofs.Trails.{Found}
+use Rattle.rast_rules.specs.Rules.{Asked, Askings, Is, Shaped, Alike, Stopped, is_alike, premise_of, deal, made_truth, are_used, none_left, head_is}
+use Rattle.rast_rules.specs.Trail.{plain, asks_sameness, truth_premise}
 
 pub or_false : (b c : Bool) → (b || c) ≡ false → (b ≡ false) × (c ≡ false)
 or_false true c e = absurd (cc)

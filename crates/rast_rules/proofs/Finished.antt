@@ -1,7 +1,7 @@
 -- A draft becomes a judgement, or the first limit that it passes.
-use Rattle.std.proofs.Common.{◌≡◌, ℕ, ◌<◌, ◌≤◌, Bool, true, false, List, Result, Ok, Err, sym, ◌∙◌, ap, ap₂, refl, IsTrue, ◌↔◌}
+use Rattle.std.proofs.Common.{◌≡◌, ℕ, ◌<◌, ◌≤◌, Bool, true, false, List, Result, Ok, Err, sym, ◌∙◌, ap, refl, IsTrue, ◌↔◌}
 use Rattle.std.specs.List.{list_all}
-use Rattle.rast_index.specs.Linear.{Linear, is_small}
+use Rattle.rast_index.specs.Linear.{Linear}
 use Rattle.rast_index.specs.Truth.{all_small}
 use Rattle.rast_index.specs.declared.formula.Formula.{Formula}
 use Rattle.rast_types.specs.declared.stop.Stop.{Stop}

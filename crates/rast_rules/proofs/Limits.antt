@@ -1,5 +1,5 @@
 -- The test of a judgement's limits, from the answers of its parts.
-use Rattle.std.proofs.Common.{◌≡◌, ℕ, ◌+◌, ◌<◌, ◌≤◌, min, Bool, true, false, not, ◌||◌, ◌&&◌, if◌then◌else◌, List, [], ◌∷◌, ◌++◌, map, length, Result, Ok, Err, sym, ◌∙◌, ap, ap₂, refl, subst, arith, nat_lt}
+use Rattle.std.proofs.Common.{◌≡◌, ℕ, ◌+◌, ◌<◌, ◌≤◌, min, Bool, true, false, ◌||◌, ◌&&◌, if◌then◌else◌, List, [], ◌∷◌, ◌++◌, map, length, Result, Ok, Err, ◌∙◌, ap, ap₂, refl, arith, nat_lt}
 use Rattle.std.specs.List.{list_any, list_all}
 use Rattle.std.proofs.lemmas.Bool.Decides.{nat_tests}
 use Rattle.std.proofs.lemmas.Bool.{and_right}
@@ -12,12 +12,9 @@ use Rattle.rast_types.specs.declared.stop.Stop.{Stop}
 use Rattle.rast_types.specs.declared.stop.Stop.TheVariants as stop
 use Rattle.rast_types.specs.declared.table.Ctx.{Ctx}
 use Rattle.rast_types.specs.declared.ty.Ty.{Ty}
-use Rattle.rast_types.specs.Symbolic.{within, is_deep, is_small_type, made_type, binders}
-use Rattle.rast_types.proofs.Heads.{within_ok, within_variables, within_deep}
+use Rattle.rast_types.specs.Symbolic.{within, is_deep, is_small_type, binders}
 use Rattle.rast_rules.specs.Rules.{Judgement, limited, all_types, is_small_judgement}
-use Rattle.rast_rules.specs.Draft.{made_uses, drafted}
 use Rattle.rast_rules.specs.Making.{made_term}
-use Rattle.rast_rules.specs.declared.draft.Draft.{Draft}
 
 -- what an answer within the limits tells, where no variable is too many
 pub not_deep : {X : Type 0} (deep small : Bool) (x : X) (r : Result X Stop) → r ≡ within deep small x → (r ≡ Err stop.Variables → ⊥) → deep ≡ false

@@ -1,5 +1,5 @@
 -- What a run reads of the judgements.
-use Rattle.std.proofs.Common.{◌≡◌, ℕ, zero, suc, ◌+◌, ◌<◌, ◌≤◌, Bool, false, List, [], ◌∷◌, ◌++◌, map, length, get_or, Option, Some, None, sym, ◌∙◌, ap, ap₂, refl, subst, arith, inl, inr}
+use Rattle.std.proofs.Common.{◌≡◌, ℕ, zero, suc, ◌+◌, ◌<◌, ◌≤◌, false, List, [], ◌∷◌, ◌++◌, map, length, get_or, Option, Some, None, sym, ◌∙◌, ap, refl, subst, arith, inl, inr}
 use Rattle.std.specs.Prelude.{slice_get}
 use Rattle.std.proofs.lemmas.Bool.{cases_lt}
 use Rattle.std.proofs.lemmas.List.{length-append}
@@ -15,7 +15,7 @@ use Rattle.rast_types.proofs.Layers.{put_layer, out_put, opened_stays, opened_na
 use Rattle.rast_terms.specs.declared.node.Node.{Node}
 use Rattle.rast_rules.specs.Rules.{Program, Judgement, Plan, IsJudgement, IsAccepted, IsPlan, premises, positive_at, paid_at}
 use Rattle.rast_rules.specs.Trail.{any_stops}
-use Rattle.rast_rules.specs.Plan.{IsForest, Judged, HasJudgement, AreJudged, AreAll, ReadsAll}
+use Rattle.rast_rules.specs.Plan.{IsForest, Judged, AreJudged, AreAll, ReadsAll}
 use Rattle.rast_rules.proofs.Single.{single, goes_on}
 
 -- ---- kinds of heads

@@ -1,12 +1,11 @@
 -- Where each node has one place, it has at most one judgement; and tables of judgements.
-use Rattle.std.proofs.Common.{◌≡◌, ℕ, zero, suc, ◌+◌, ◌<◌, ◌≤◌, Bool, true, false, not, ◌||◌, List, [], ◌∷◌, ◌++◌, map, length, set, Option, Some, None, Result, Ok, Err, sym, ◌∙◌, ap, ap₂, refl, subst, subst₂, arith, inl, inr, ◌⊎◌, All}
+use Rattle.std.proofs.Common.{◌≡◌, ℕ, zero, suc, ◌+◌, ◌<◌, ◌≤◌, false, not, ◌||◌, List, [], ◌∷◌, ◌++◌, map, length, set, Option, Some, None, Result, Ok, Err, sym, ◌∙◌, ap, ap₂, refl, subst, subst₂, arith, inl, inr, ◌⊎◌, All}
 use Rattle.std.specs.Prelude.{slice_get, slice_set, MatchOption}
 use Rattle.std.proofs.lemmas.Bool.{cases_lt}
 use Rattle.std.proofs.lemmas.List.{length-set, length-map}
 use Rattle.std.proofs.lemmas.List.Elements.{All-head, All-tail}
 use Rattle.std.proofs.lemmas.Option.{slice_get_within}
 use Rattle.rast_types.specs.declared.stop.Stop.{Stop}
-use Rattle.rast_types.specs.declared.ty.Ty.{Ty}
 use Rattle.rast_terms.specs.Nodes.{kids}
 use Rattle.rast_terms.specs.declared.node.Node.{Node}
 use Rattle.rast_terms.specs.declared.node.Node.TheVariants as node
@@ -17,7 +16,7 @@ use Rattle.rast_rules.specs.Start.{IsStart}
 use Rattle.rast_rules.specs.declared.root.RuleErr.{RuleErr}
 use Rattle.rast_rules.specs.declared.root.RuleErr.TheVariants.{Limit}
 use Rattle.rast_rules.specs.Trail.{any_stops}
-use Rattle.rast_rules.specs.Plan.{IsBody, IsKid, IsForest, Judged, HasJudgement, AreJudged, AreAll, AreChildren, HaveBodies, HaveKids, HaveBelow}
+use Rattle.rast_rules.specs.Plan.{IsForest, Judged, HasJudgement, AreJudged, AreAll, AreChildren, HaveBodies, HaveKids, HaveBelow}
 
 pub some_same : {X : Type 0} (x y : X) → Some x ≡ Some y → x ≡ y
 some_same {X} x y e = cc

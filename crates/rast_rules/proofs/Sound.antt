@@ -1,5 +1,5 @@
 -- What is known of a node where none of its premises stops.
-use Rattle.std.proofs.Common.{◌≡◌, ℕ, suc, ◌+◌, ◌<◌, min, length, get_or, add-one, arith, Bool, true, false, not, ◌||◌, ◌&&◌, if◌then◌else◌, List, [], ◌∷◌, ◌++◌, map, zip, take, drop, Option, Some, None, Result, Ok, Err, sym, ◌∙◌, ap, ap₂, refl, subst}
+use Rattle.std.proofs.Common.{◌≡◌, ℕ, suc, ◌+◌, ◌<◌, min, length, get_or, add-one, arith, Bool, true, false, not, ◌||◌, ◌&&◌, if◌then◌else◌, List, [], ◌∷◌, ◌++◌, map, take, drop, Option, Some, None, Result, Ok, Err, sym, ◌∙◌, ap, ap₂, refl}
 use Rattle.std.specs.Prelude.{filter, slice_get}
 use Rattle.std.specs.List.{list_any, list_all}
 use Rattle.std.proofs.Math.Seq.{take-suc}
@@ -22,8 +22,7 @@ use Rattle.rast_terms.specs.Nodes.{Touch, touches, refs_of}
 use Rattle.rast_terms.specs.declared.node.Node.{Node}
 use Rattle.rast_terms.specs.declared.node.Node.TheVariants as node
 use Rattle.rast_equal.specs.Valid.{nonneg}
-use Rattle.rast_rules.specs.declared.premise.Premise.{Premise}
-use Rattle.rast_rules.specs.Rules.{Program, Decl, Judgement, Asked, Askings, Is, Shaped, Alike, Stopped, premise_of, deal, share, stops, until_stop, premises, asked, node_asked, touch_asked, at_channel, at_head, made_truth, spawn_asked, are_used, arg_asked, delay_asked, other_asked, all_types, defs, is_provided, type_of, or_one, head_at, child_at, with_type, without, root}
+use Rattle.rast_rules.specs.Rules.{Program, Decl, Judgement, Asked, Askings, Is, Shaped, Alike, Stopped, premise_of, deal, share, stops, premises, asked, node_asked, touch_asked, at_channel, at_head, made_truth, spawn_asked, are_used, delay_asked, all_types, defs, is_provided, type_of, or_one, child_at, with_type, without, root}
 use Rattle.rast_rules.specs.declared.draft.Draft.{Draft}
 use Rattle.rast_rules.specs.Draft.{made_uses, drafted}
 use Rattle.rast_rules.specs.Making.{made_term}

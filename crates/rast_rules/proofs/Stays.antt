@@ -1,5 +1,5 @@
 -- What stays the same in a child.
-use Rattle.std.proofs.Common.{◌≡◌, ℕ, ◌+◌, ◌<◌, ◌≤◌, Bool, true, false, if◌then◌else◌, List, [], ◌∷◌, ◌++◌, Option, Some, None, Result, Ok, Err, sym, ◌∙◌, ap, refl, arith, Bor, nat_lt}
+use Rattle.std.proofs.Common.{◌≡◌, ℕ, ◌+◌, ◌<◌, ◌≤◌, Bool, true, false, if◌then◌else◌, List, [], ◌∷◌, ◌++◌, Some, None, Err, sym, ◌∙◌, ap, refl, arith, Bor, nat_lt}
 use Rattle.std.proofs.lemmas.Bool.Decides.{nat_tests}
 use Rattle.std.proofs.lemmas.List.{append-nil}
 use Rattle.rast_index.specs.Keys.{set_key}
@@ -11,7 +11,7 @@ use Rattle.rast_rules.specs.Rules.{Judgement, is_provided, with_type, without, w
 use Rattle.rast_rules.specs.Draft.{drafted, changed}
 use Rattle.rast_rules.proofs.Limits.{limit_scope}
 use Rattle.rast_rules.proofs.Sound.{IsKept}
-use Rattle.rast_rules.proofs.Turned.{changed_none, changed_without, changed_wider, without_none}
+use Rattle.rast_rules.proofs.Turned.{changed_none, changed_wider, without_none}
 
 -- the draft of a judgement with another type at one channel
 pub goes_on_all : (j : Judgement) (x : ℕ) (a : Ty) (d : Draft) → d ≡ drafted (with_type (without j []) x a) → d ≡ drafted (with_type j x a)

@@ -1,5 +1,5 @@
 -- What is dealt out at a node that touches a channel.
-use Rattle.std.proofs.Common.{◌≡◌, ℕ, List, [], ◌∷◌, ◌++◌, map, Option, Some, None, Result, Ok, Err, sym, ◌∙◌, ap, ap₂, refl, MatchOption, Bor, Bool}
+use Rattle.std.proofs.Common.{◌≡◌, ℕ, List, [], ◌∷◌, ◌++◌, map, Option, Some, None, Result, Ok, sym, ◌∙◌, ap, ap₂, refl, MatchOption, Bor, Bool}
 use Rattle.std.specs.Prelude.{is_some}
 use Rattle.rast_index.specs.Linear.{nought}
 use Rattle.rast_index.specs.Truth.{is_equal}
@@ -17,7 +17,6 @@ use Rattle.rast_rules.specs.declared.premise.Premise.TheVariants.{Truth}
 use Rattle.rast_rules.specs.Rules.{Program, Judgement, deal, further, at_head, head_is, choices_of, label_asked, has_branch, or_one}
 use Rattle.rast_rules.specs.Trail.{plain}
 use Rattle.rast_rules.proofs.Deals.{deal_plain, deal_quiet, quiet_map, quiet_append, quiet_head}
-use Rattle.rast_rules.proofs.Trails.{Found}
 
 -- the type of a channel, or the end
 pub or_one_of : (o : Option (Bor Ty)) (u : Option Ty) → MatchOption o (u ≡ None) (λ a. u ≡ Some a.now) → MatchOption o (or_one u ≡ ty.One) (λ a. or_one u ≡ a.now)

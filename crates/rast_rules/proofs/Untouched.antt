@@ -1,5 +1,5 @@
 -- What is dealt out at a forward and at a delay.
-use Rattle.std.proofs.Common.{◌≡◌, ℕ, ◌+◌, Bool, true, false, not, List, [], ◌∷◌, ◌++◌, map, Option, Some, None, sym, ◌∙◌, ap, ap₂, refl}
+use Rattle.std.proofs.Common.{◌≡◌, ℕ, ◌+◌, Bool, true, false, not, List, [], ◌∷◌, ◌++◌, map, sym, ◌∙◌, ap, refl}
 use Rattle.std.proofs.lemmas.List.{map-append}
 use Rattle.std.specs.Prelude.{is_some, filter}
 use Rattle.rast_index.specs.Linear.{Linear, nought}
@@ -14,10 +14,9 @@ use Rattle.rast_equal.specs.Valid.{nonneg}
 use Rattle.rast_rules.specs.declared.premise.Premise.{Premise}
 use Rattle.rast_rules.specs.declared.premise.Premise.TheVariants.{Truth, Shape, Same}
 use Rattle.rast_rules.specs.declared.premise.Evidence.TheVariants.{Linear as WLinear}
-use Rattle.rast_rules.specs.Rules.{Program, Judgement, Askings, Is, Alike, defs, deal, forward_asked, other_asked, delay_asked, all_types, none_left, without, is_provided, used_type, or_one}
-use Rattle.rast_rules.specs.Trail.{plain, truth_premise, delay_premise}
+use Rattle.rast_rules.specs.Rules.{Program, Judgement, defs, deal, forward_asked, other_asked, delay_asked, all_types, none_left, without, is_provided, used_type, or_one}
+use Rattle.rast_rules.specs.Trail.{plain, delay_premise}
 use Rattle.rast_rules.proofs.Deals.{deal_quiet, deal_truth, deal_last, quiet_left}
-use Rattle.rast_rules.proofs.Trails.{Found}
 
 pub forward_deal : (j : Judgement) (x y n : ℕ) (rs : List Ref) →
     (1, Shape (is_provided j x) (WLinear x)) ∷ [] ++ ((1, Shape (is_some (used_type j y)) (WLinear y)) ∷ [] ++ (plain (none_left 2 (without j (y ∷ [])).uses) ++ ((3, Truth (is_equal j.potential nought)) ∷ [] ++ (4, Same (or_one (used_type j y)) j.gives.1 rs) ∷ []))) ≡ deal n rs (forward_asked j x y)

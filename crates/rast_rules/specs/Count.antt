@@ -1,5 +1,5 @@
 -- How many references a walk of two types takes from those that are there.
-use Rattle.std.specs.Prelude.{ℕ, ◌-◌, Bool, true, if◌then◌else◌, List, [], ◌∷◌}
+use Rattle.std.specs.Prelude.{◌-◌, true, if◌then◌else◌, List, [], ◌∷◌}
 use Rattle.rast_equal.specs.declared.met.Met.{Met}
 use Rattle.rast_equal.specs.declared.met.Met.TheVariants.{Wants, Names, Differs, Shuffled, Over}
 use Rattle.rast_rules.specs.declared.count.Left.{Left}

@@ -1,6 +1,5 @@
 -- Judgements at which a delay may stand.
-use Rattle.std.specs.Prelude.{ℕ, Bool, List, map}
-use Rattle.std.specs.List.{list_all}
+use Rattle.std.specs.Prelude.{ℕ, Bool}
 use Rattle.rast_index.specs.Linear.{is_small}
 use Rattle.rast_types.specs.Closed.{Table}
 use Rattle.rast_types.specs.Symbolic.{before_delay}

@@ -1,5 +1,5 @@
 -- Premises one behind another, and none behind one that stops.
-use Rattle.std.specs.Prelude.{ℕ, Bool, true, false, if◌then◌else◌, List, [], ◌∷◌, ◌++◌, map, filter, not, ◌==◌, Option, Some, None}
+use Rattle.std.specs.Prelude.{ℕ, Bool, if◌then◌else◌, List, [], ◌∷◌, ◌++◌, map, filter, not, ◌==◌, Option, Some, None}
 use Rattle.std.specs.List.{list_any}
 use Rattle.rast_index.specs.Linear.{Linear}
 use Rattle.rast_index.specs.Truth.{all_small, is_at_least}
@@ -9,9 +9,9 @@ use Rattle.rast_index.specs.declared.formula.Formula.{Formula}
 use Rattle.rast_types.specs.declared.ty.Ty.{Ty}
 use Rattle.rast_types.specs.declared.stop.Stop.TheVariants as stop
 use Rattle.rast_rules.specs.declared.premise.Premise.{Premise}
-use Rattle.rast_rules.specs.declared.premise.Premise.TheVariants.{Truth, Shape, Passed}
+use Rattle.rast_rules.specs.declared.premise.Premise.TheVariants.{Truth, Passed}
 use Rattle.rast_rules.specs.declared.premise.Evidence.TheVariants as why
-use Rattle.rast_rules.specs.Rules.{Askings, Asked, is_alike, premise_of, stops, until_stop}
+use Rattle.rast_rules.specs.Rules.{Askings, is_alike, premise_of, stops, until_stop}
 
 abbrev pub any_stops : List (ℕ × Premise) → Bool
 any_stops ps = list_any (λ p. stops p.1) ps

@@ -29,6 +29,3 @@ pub use judgement::{Judgement, Plan};
 pub use planned::plan;
 pub use premise::{Evidence, Premise};
 pub use root::{RuleErr, start};
-
-#[cfg(test)]
-mod tests;

@@ -3,6 +3,8 @@
 
 mod node;
 mod program;
+mod texts;
 
 pub use node::Node;
 pub use program::{Decl, Program, Said};
+pub use texts::{put_decl, put_def, put_name};

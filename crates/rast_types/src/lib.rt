@@ -8,8 +8,6 @@ mod head;
 mod put;
 mod stop;
 mod table;
-#[cfg(test)]
-mod tests;
 mod timing;
 mod ty;
 mod wide;

@@ -1,9 +1,9 @@
 -- Words that are taken name a subcommand.
-use Rattle.std.proofs.Common.{◌≡◌, ◌∙◌, ◌⊎◌, ◌&&◌, ◌||◌, ℕ, Bool, true, false, cond, not, List, [], ◌∷◌, Option, Some, None, Box, find, option_map, is_some, inl, inr, refl, sym, ap, ap₂, subst, ⊎_elim, unwrap_or, Global, codes, true≢false}
+use Rattle.std.proofs.Common.{◌≡◌, ◌∙◌, ◌⊎◌, ◌&&◌, ◌||◌, Bool, true, false, cond, not, List, [], ◌∷◌, Option, Some, None, Box, find, option_map, is_some, inl, inr, refl, sym, ap, ap₂, subst, ⊎_elim, unwrap_or, Global, true≢false}
 use Rattle.std.specs.List.{list_all}
 use Rattle.std.specs.Box.{box_value}
 use Rattle.std.proofs.lemmas.Bool.{and_parts}
-use Rattle.clap.specs.Words.{App, Row, Rule, Shape, Text, built, is_simple, subcommand_of, takes, subcommand_rows, HasMatchesOf, subcommand_rows_of, subcommand_name_of, has_subcommand}
+use Rattle.clap.specs.Words.{App, Row, Shape, Text, built, is_simple, subcommand_of, takes, subcommand_rows, HasMatchesOf, subcommand_rows_of, subcommand_name_of, has_subcommand}
 use Rattle.clap.specs.declared.parser.matches.ArgMatches.{ArgMatches}
 use Rattle.clap.specs.declared.parser.matches.ArgMatches.TheViews.{out-ArgMatches, out-SubCommand}
 use Rattle.clap.specs.declared.parser.matches.SubCommand.{SubCommand}

@@ -9,7 +9,8 @@ use Rattle.rast_core.specs.Shown.{run_code}
 use Rattle.rast_core.specs.Edits.{KeepsPid}
 use Rattle.rast_core.proofs.Cuts.{free_before}
 use Rattle.rast_core.proofs.MessageSteps.{potential_within}
-use Rattle.rast_core.proofs.DecideLemmas.{of_action, rule_of, item_holds, put_decided, turn_decided, work_decided, delay_decided, make_decided}
+use Rattle.rast_equal.proofs.Every.{all_get}
+use Rattle.rast_core.proofs.DecideLemmas.{of_action, rule_of, put_decided, turn_decided, work_decided, delay_decided, make_decided}
 use Rattle.rast_core.proofs.decide.decide_action.Goals as goal
 
 pub take_below-requires-clause-own : goal.take_below-requires-clause-own
@@ -28,7 +29,7 @@ pub take_above-requires-clause-at : goal.take_above-requires-clause-at
 take_above-requires-clause-at c = slice_get_within c.args.items.now c.args.place (P c.args.proc.now) c.requires.at
 
 pub take_above-requires-clause-slack : goal.take_above-requires-clause-slack
-take_above-requires-clause-slack c = (item_holds (IsItemSlack 1) c.args.items.now c.args.place (P c.args.proc.now) c.requires.slack c.requires.at).0
+take_above-requires-clause-slack c = (all_get (IsItemSlack 1) c.args.items.now c.args.place (P c.args.proc.now) c.requires.slack c.requires.at).0
 
 pub take_above-requires-clause-own : goal.take_above-requires-clause-own
 take_above-requires-clause-own c = omega (arith, potential_within c.args.items.now c.args.place (P c.args.proc.now) c.requires.at, c.requires.potential)

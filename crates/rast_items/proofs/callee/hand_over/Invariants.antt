@@ -1,4 +1,4 @@
-use Rattle.std.proofs.Common.{◌≡◌, ◌≤◌, ◌+◌, drop, length}
+use Rattle.std.proofs.Common.{◌≡◌, ◌≤◌, ◌+◌}
 use Rattle.rast_items.proofs.HandOver.{IsOnTheWay}
 use Rattle.rast_items.proofs.callee.hand_over.Given as goal
 

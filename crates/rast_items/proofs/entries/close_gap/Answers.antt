@@ -1,4 +1,4 @@
-use Rattle.std.proofs.Common.{◌≡◌, length, ◌-◌, ◌+◌, arith, refl}
+use Rattle.std.proofs.Common.{◌≡◌, length, ◌-◌, ◌+◌, arith}
 use Rattle.std.proofs.lemmas.Slice.{put_mid-rotated}
 use Rattle.rast_items.specs.Process.{no_link}
 use Rattle.rast_items.proofs.EntryLemmas.{gap_filled}

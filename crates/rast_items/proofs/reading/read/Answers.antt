@@ -1,8 +1,7 @@
-use Rattle.std.proofs.Common.{rules, ◌≡◌, ℕ, ◌-◌, ℤ, ◌∙◌, ap, sym, subst, List}
+use Rattle.std.proofs.Common.{rules, ◌≡◌, ◌-◌, ℤ, ◌∙◌, ap, subst}
 use Rattle.std.proofs.lemmas.Int.{to_z-of_z}
 use mir.Val.{SFits}
 use mir.Syntax.{w128}
-use Rattle.rast_index.specs.Linear.{value, whole}
 use Rattle.rast_items.specs.Process.{Process}
 use Rattle.rast_items.specs.Deeds.{at_values}
 use Rattle.rast_items.specs.Actions.{IsReading}

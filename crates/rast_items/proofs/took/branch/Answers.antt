@@ -1,6 +1,4 @@
-use Rattle.std.proofs.Common.{◌≡◌, sym, ◌∙◌, drop, ap}
-use Rattle.std.proofs.lemmas.List.{drop_all}
-use Rattle.rast_index.specs.Keys.{find_key}
+use Rattle.std.proofs.Common.{◌≡◌, sym, ◌∙◌}
 use Rattle.rast_items.proofs.EntryLemmas.{find_here, find_on}
 use Rattle.rast_items.proofs.took.branch.Goals as goal
 

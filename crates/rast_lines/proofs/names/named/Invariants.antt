@@ -1,5 +1,5 @@
 use Rattle.std.proofs.Common.{◌≡◌, ◌++◌, map, drop}
-use Rattle.rast_lines.specs.Texts.{name_text}
+use Rattle.rast_terms.specs.Texts.{name_text}
 use Rattle.rast_lines.proofs.names.named.Given as goal
 
 abbrev pub invariant-loop-number : goal.invariant-loop-number

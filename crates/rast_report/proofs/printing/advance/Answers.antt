@@ -1,4 +1,4 @@
-use Rattle.std.proofs.Common.{◌≡◌, sym, ◌∙◌, rules}
+use Rattle.std.proofs.Common.{◌≡◌, ◌∙◌}
 use Rattle.rast_report.proofs.Advancing.{on_advances, next_advances, sent_advances, past_end, item_ends}
 use Rattle.rast_report.proofs.printing.advance.Goals as goal
 

@@ -1,4 +1,4 @@
-use Rattle.std.proofs.Common.{◌∙◌, ap, refl}
+use Rattle.std.proofs.Common.{◌∙◌, ap}
 use Rattle.rast_index.specs.Linear.{less, replaced}
 use Rattle.rast_rules.specs.declared.draft.Draft.{Draft}
 use Rattle.rast_rules.specs.Draft.{drafted}

@@ -1,4 +1,4 @@
-use Rattle.std.proofs.Common.{◌≡◌, ◌∷◌, [], ◌∙◌, ap, ap₂, sym, refl, ℕ, Ok, drop, take, length, min, List, if◌then◌else◌}
+use Rattle.std.proofs.Common.{◌≡◌, ◌∷◌, [], ◌∙◌, ap, ap₂, sym, ℕ, Ok, drop, take, length, min, List, if◌then◌else◌}
 use Rattle.rast_types.specs.Symbolic.{made_type, is_deep, is_small_type}
 use Rattle.rast_types.specs.declared.equation.Ref.{Ref}
 use Rattle.rast_types.proofs.Heads.{within_ok}

@@ -1,5 +1,5 @@
-use Rattle.std.proofs.Common.{◌≡◌, ◌∷◌, [], ◌++◌, map, zip, ◌∙◌, ap, ap₂, sym, refl, ℕ, List}
-use Rattle.rast_index.specs.Linear.{Linear, replaced}
+use Rattle.std.proofs.Common.{◌≡◌, ◌∷◌, [], ◌++◌, map, zip, ◌∙◌, ap, refl, List}
+use Rattle.rast_index.specs.Linear.{replaced}
 use Rattle.rast_index.specs.Truth.{is_equal}
 use Rattle.rast_equal.specs.Valid.{nonneg}
 use Rattle.rast_types.specs.Symbolic.{made_type}
@@ -7,7 +7,7 @@ use Rattle.rast_types.specs.declared.ty.Ty.{Ty}
 use Rattle.rast_rules.specs.declared.premise.Premise.{Premise}
 use Rattle.rast_rules.specs.declared.premise.Premise.TheVariants.{Shape}
 use Rattle.rast_rules.specs.declared.premise.Evidence.TheVariants.{Linear as WLinear}
-use Rattle.rast_rules.specs.Rules.{Asked, Askings, Is, Alike, deal, arg_asked, at_args, are_used, is_provided, none_left, without, failure}
+use Rattle.rast_rules.specs.Rules.{Askings, Is, Alike, deal, arg_asked, at_args, are_used, is_provided, none_left, without, failure}
 use Rattle.rast_rules.specs.Trail.{and_then, plain, truth_premise}
 use Rattle.rast_rules.proofs.Trails.{Found, two_then, on_ok}
 use Rattle.rast_rules.proofs.Called.{call_deal}

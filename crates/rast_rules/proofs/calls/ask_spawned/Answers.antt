@@ -1,11 +1,11 @@
-use Rattle.std.proofs.Common.{◌≡◌, ◌∷◌, [], ◌++◌, map, zip, ◌∙◌, ap, ap₂, sym, refl, ℕ, List}
+use Rattle.std.proofs.Common.{◌≡◌, ◌∷◌, [], ◌++◌, map, zip, ◌∙◌, ap, sym, refl, List}
 use Rattle.std.proofs.lemmas.List.{append-nil}
-use Rattle.rast_index.specs.Linear.{Linear, replaced}
+use Rattle.rast_index.specs.Linear.{replaced}
 use Rattle.rast_index.specs.Truth.{is_at_least}
 use Rattle.rast_equal.specs.Valid.{nonneg}
 use Rattle.rast_types.specs.declared.ty.Ty.{Ty}
 use Rattle.rast_rules.specs.declared.premise.Premise.{Premise}
-use Rattle.rast_rules.specs.Rules.{Asked, Askings, Is, deal, arg_asked, are_used}
+use Rattle.rast_rules.specs.Rules.{Askings, Is, deal, arg_asked, are_used}
 use Rattle.rast_rules.specs.Trail.{and_then, plain, truth_premise}
 use Rattle.rast_rules.proofs.Trails.{Found, two_then, then_nil}
 use Rattle.rast_rules.proofs.Called.{spawn_deal}

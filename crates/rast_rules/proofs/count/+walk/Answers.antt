@@ -1,11 +1,10 @@
-use Rattle.std.proofs.Common.{◌≡◌, ◌∙◌, sym, ap, ap₂, true, false, refl, List, ℕ}
+use Rattle.std.proofs.Common.{◌≡◌, ◌∙◌, sym, ap, true, false, refl}
 use Rattle.rast_index.specs.Keys.{find_key}
 use Rattle.rast_types.specs.declared.ty.Ty.{Ty, out-Ty}
 use Rattle.rast_types.specs.declared.ty.Ty.TheVariants as ty
 use Rattle.rast_types.specs.declared.ty.Ty.TheOpen.{Plus, With, Tensor, Lolli}
 use Rattle.rast_types.specs.declared.ty.Ty.TheFolds.{map-Ty}
-use Rattle.rast_equal.specs.declared.place.Place.{Place}
-use Rattle.rast_equal.specs.Walk.{Walker, walker, at_rest, down, choices, all_of}
+use Rattle.rast_equal.specs.Walk.{Walker, walker, at_rest, down}
 use Rattle.rast_equal.specs.declared.answer.Part.TheVariants.{First, Second}
 use Rattle.rast_rules.specs.Count.{after}
 use Rattle.rast_rules.proofs.Counts.{walk_turn, walk_end, choices_agree, walk_rest, not_next, scope_within, none_named, choices_differ, choices_by, pair_by}

@@ -1,6 +1,6 @@
 use Rattle.std.proofs.Common.{◌≡◌, drop, map}
 use Rattle.rast_equal.specs.declared.place.Place.{Place}
-use Rattle.rast_equal.specs.Walk.{walker, at_label, down}
+use Rattle.rast_equal.specs.Walk.{walker, at_label}
 use Rattle.std.specs.Prelude.{flat_map}
 use Rattle.rast_index.specs.Keys.{find_key}
 use Rattle.rast_rules.specs.Count.{after}

@@ -1,4 +1,4 @@
-use Rattle.std.proofs.Common.{◌∙◌, ap, sym}
+use Rattle.std.proofs.Common.{◌∙◌, ap}
 use Rattle.std.specs.Prelude.{slice_get}
 use Rattle.rast_rules.specs.Plan.{AreChildren}
 use Rattle.rast_rules.proofs.Single.{kids_all, kid_judged, kid_made, children_some, children_none}

@@ -1,4 +1,4 @@
-use Rattle.std.proofs.Common.{◌≡◌, sym, Some}
+use Rattle.std.proofs.Common.{◌≡◌, Some}
 use Rattle.std.specs.Prelude.{slice_get}
 use Rattle.rast_rules.proofs.Single.{goes_on}
 use Rattle.rast_rules.proofs.judged.made_below.Goals as goal

@@ -1,4 +1,4 @@
-use Rattle.std.proofs.Common.{refl, true, [], ◌∙◌, ap, min, length, sym}
+use Rattle.std.proofs.Common.{true, [], ◌∙◌, ap, min, length}
 use Rattle.rast_rules.specs.Draft.{made_uses}
 use Rattle.rast_rules.specs.Rules.{defs, delayed}
 use Rattle.rast_rules.specs.Trail.{left}

@@ -1,4 +1,4 @@
-use Rattle.std.proofs.Common.{sym, subst}
+use Rattle.std.proofs.Common.{subst}
 use Rattle.rast_types.specs.Made.{Answers}
 use Rattle.rast_types.specs.Symbolic.{made_type}
 use Rattle.rast_types.specs.declared.ty.Ty.{Ty}

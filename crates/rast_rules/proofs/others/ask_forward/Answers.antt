@@ -1,4 +1,4 @@
-use Rattle.std.proofs.Common.{◌≡◌, ◌∷◌, [], ◌++◌, ◌∙◌, ap, ap₂, refl, ℕ, Some}
+use Rattle.std.proofs.Common.{◌≡◌, ◌∷◌, [], ◌++◌, ◌∙◌, ap, refl}
 use Rattle.std.specs.Prelude.{is_some}
 use Rattle.rast_index.specs.Linear.{nought}
 use Rattle.rast_index.specs.Truth.{is_equal}

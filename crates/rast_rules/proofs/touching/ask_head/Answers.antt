@@ -1,4 +1,4 @@
-use Rattle.std.proofs.Common.{◌≡◌, ◌∷◌, [], ◌++◌, ◌∙◌, ap, ap₂, sym, ℕ, Option}
+use Rattle.std.proofs.Common.{◌≡◌, ◌∷◌, [], ◌++◌, ◌∙◌, ap, ap₂, Option}
 use Rattle.rast_index.specs.Linear.{nought}
 use Rattle.rast_index.specs.Truth.{is_equal}
 use Rattle.rast_types.specs.declared.ty.Kind.{Kind}

@@ -1,4 +1,4 @@
-use Rattle.std.proofs.Common.{Ok, ◌≡◌, ◌++◌, ◌∷◌, [], ◌∙◌, ap, sym, refl, take, drop, add-one, List, ℕ, length, ◌-◌, ◌+◌, false, ◌==◌}
+use Rattle.std.proofs.Common.{Ok, ◌≡◌, ◌++◌, ◌∷◌, [], ◌∙◌, ap, sym, take, drop, add-one, List, ℕ, length, ◌-◌, ◌+◌, false, ◌==◌}
 use Rattle.std.specs.List.{list_any}
 use Rattle.rast_index.specs.Keys.{set_key, IsPlace}
 use Rattle.rast_types.specs.declared.ty.Ty.{Ty}

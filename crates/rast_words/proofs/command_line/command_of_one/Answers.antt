@@ -1,5 +1,5 @@
 use Rattle.std.proofs.Common.{◌≡◌, ◌∙◌, ap, ap₂, true}
-use Rattle.clap.specs.Words.{App, Rule, app_of, new_rule, rule_of}
+use Rattle.clap.specs.Words.{App, Rule, rule_of}
 use Rattle.clap.specs.Simple.{with_rule}
 use Rattle.clap.specs.declared.builder.arg.Arg.{Arg}
 use Rattle.rast_words.proofs.command_line.command_of_one.Goals as goal

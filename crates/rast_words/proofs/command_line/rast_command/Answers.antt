@@ -1,5 +1,5 @@
 use Rattle.std.proofs.Common.{◌≡◌, ◌∙◌, ap, ap₂, codes, true}
-use Rattle.clap.specs.Words.{Shape, app_of, shape_of}
+use Rattle.clap.specs.Words.{Shape, shape_of}
 use Rattle.clap.specs.Simple.{app_of_fields, on_top, with_subcommand}
 use Rattle.rast_words.specs.CommandLine.{of_one, run_app}
 use Rattle.rast_words.proofs.SubcommandLemmas.{third_fails}

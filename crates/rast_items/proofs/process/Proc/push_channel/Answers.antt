@@ -1,4 +1,4 @@
-use Rattle.std.proofs.Common.{◌≡◌, ℕ, ◌≤◌, ◌+◌, ◌<◌, length, arith, refl, ap}
+use Rattle.std.proofs.Common.{◌≡◌, ◌≤◌, ◌+◌, ◌<◌, length, arith, refl, ap}
 use Rattle.std.proofs.lemmas.List.{length-set}
 use Rattle.rast_items.specs.Again.{count_again}
 use Rattle.rast_items.specs.Process.{Process, own_of, uses_of}

@@ -1,4 +1,4 @@
-use Rattle.std.proofs.Common.{◌≡◌, ℕ, ◌≤◌, ◌+◌, ◌<◌, length, arith, refl, ap}
+use Rattle.std.proofs.Common.{◌≡◌, ◌≤◌, ◌+◌, ◌<◌, length, arith, ap}
 use Rattle.std.proofs.lemmas.List.{length-set, length-take}
 use Rattle.rast_items.specs.Process.{Process}
 use Rattle.rast_items.proofs.EntryLemmas.{filled_more}

@@ -1,8 +1,7 @@
-use Rattle.std.proofs.Common.{◌≡◌, ℕ, None, List, [], ◌∷◌, ◌++◌, ◌+◌, ◌-◌, ◌≤◌, ap, sym, ◌∙◌, subst, arith, remove}
+use Rattle.std.proofs.Common.{◌≡◌, ℕ, None, List, ◌∷◌, ◌++◌, ◌+◌, ◌-◌, ◌≤◌, ap, sym, ◌∙◌, subst, arith}
 use Rattle.rast_index.specs.Keys.{find_key, drop_key, IsPlace}
 use Rattle.rast_items.specs.declared.link.Link.{Link}
-use Rattle.rast_items.specs.declared.process.Proc.TheInside.{Inside}
-use Rattle.rast_items.specs.Process.{Process, no_link, own_of, uses_of, first_is_own}
+use Rattle.rast_items.specs.Process.{Process, no_link}
 use Rattle.rast_items.proofs.EntryLemmas.{place_found, drop_missing}
 use Rattle.rast_items.proofs.ChannelLemmas.{Array, take_array, place_below, view_with}
 use Rattle.rast_items.proofs.process.Proc.take_channel.Goals as goal
