@@ -9,7 +9,7 @@ use Rattle.rast_check.specs.Formed.{IsFormed, answer, is_formed}
 use Rattle.rast_check.specs.Questions.{Question, IsTrueQuestion, TypeBound, questions, type_questions, decl_questions, equation_questions, body_questions, check_answer}
 use Rattle.rast_check.specs.Refusals.{Asked, Clears, IsRefusal}
 use Rattle.rast_check.specs.declared.answer.CheckErr.{CheckErr}
-use Rattle.rast_check.proofs.Every.{all_every}
+use Rattle.std.proofs.lemmas.List.Elements.{recursion_from_All}
 use Rattle.rast_check.proofs.Laws.{accepted}
 use Rattle.rast_check.proofs.Leads.{Leads, error_of, leads_start, leads_step, asked_last, asked_stop, refusal_is}
 
@@ -17,7 +17,7 @@ answer_formed : (g : Program) → is_formed g ≡ true → answer searched g ≡
 answer_formed g h = ap (λ (b : Bool). if b then check_answer searched g else Some (TypeBound 0 stop.Variables)) h
 
 pub answered : {X : Type 0} (g : Program) (t : Bool) (r : Result X CheckErr) → t ≡ is_formed g → t ≡ true → IsFormed g → Asked g (questions g) r → IsAnswer g r
-answered {X} g t (Ok x) e h f a = (answer_formed g (sym e ∙ h) ∙ a.0, accepted g f.forward (all_every (IsTrueQuestion g) (questions g) a.1))
+answered {X} g t (Ok x) e h f a = (answer_formed g (sym e ∙ h) ∙ a.0, accepted g f.forward (recursion_from_All (IsTrueQuestion g) (questions g) a.1))
 answered {X} g t (Err why) e h f a = refusal_is _ _ why (sym (answer_formed g (sym e ∙ h))) a
 
 pub unformed : (g : Program) (t : Bool) → t ≡ is_formed g → t ≡ false → answer searched g ≡ Some (TypeBound 0 stop.Variables)

@@ -1,20 +1,20 @@
 -- The first error of a list: none where nothing is wrong, and else an error of one of its elements.
-use Rattle.std.proofs.Common.{◌≡◌, ℕ, Bool, true, false, List, [], ◌∷◌, Option, Some, None, refl, sym, subst, ◌∙◌, true≢false}
-use Rattle.std.specs.List.{list_all}
+use Rattle.std.proofs.Common.{◌≡◌, ℕ, Bool, true, false, List, [], ◌∷◌, length, Option, Some, None, refl, sym, subst, ◌∙◌, true≢false}
+use Rattle.std.specs.List.{list_all, AllByRecursion}
 use Rattle.rast_index.specs.Truth.{Follows}
 use Rattle.rast_index.specs.declared.formula.Formula.{Formula}
 use Rattle.rast_equal.specs.Valid.{Claim, Asks as CAsks, Shape as CShape, Over as COver, IsTrueClaim}
 use Rattle.rast_equal.specs.Walk.{Point, Asks, Wanted, Never, TooMany, Bound, IsTruePoint, same_points}
 use Rattle.rast_equal.specs.declared.answer.SameErr.{SameErr}
 use Rattle.rast_equal.specs.declared.answer.SameErr.TheVariants as same
-use Rattle.rast_rules.specs.Rules.{Program, IsTruePremise}
+use Rattle.rast_rules.specs.Rules.{Program, defs, IsTruePremise}
 use Rattle.rast_rules.specs.declared.judgement.Judgement.{Judgement}
 use Rattle.rast_rules.specs.declared.premise.Premise.{Premise}
 use Rattle.rast_rules.specs.declared.premise.Premise.TheVariants.{Truth, Shape, Same, Passed}
 use Rattle.rast_types.specs.declared.stop.Stop.{Stop}
 use Rattle.rast_types.specs.declared.stop.Stop.TheVariants as stop
 use Rattle.rast_check.specs.Questions.{Decision, Verdict, Holds, Fails, Limits, unless, point_error, or_else, first_error, Question, OfType, OfDecl, OfEquation, OfLimit, OfPremise, IsTrueQuestion, Refusal, BadType, TypeBound, BadDecl, DeclBound, BadEquation, StopsAt, in_scope, is_asked, is_placed, are_compared, claim_error, same_refusal, premise_error, point_refusal, refusal, is_bound}
-use Rattle.rast_check.proofs.Every.{Every, every_all, all_every}
+use Rattle.std.proofs.lemmas.List.Elements.{All-from_recursion, recursion_from_All}
 
 no_some : {X : Type 0} (x : X) → Some x ≡ None → ⊥
 no_some {X} x h = cc
@@ -48,11 +48,11 @@ pub or_else_none : {E : Type 0} (a b : Option E) → or_else a b ≡ None → (a
 or_else_none {E} None b h = (refl, h)
 or_else_none {E} (Some e) b h = absurd (no_some e h)
 
-pub first_none : {A E : Type 0} (f : A → Option E) (xs : List A) → first_error f xs ≡ None → Every (λ x. f x ≡ None) xs
+pub first_none : {A E : Type 0} (f : A → Option E) (xs : List A) → first_error f xs ≡ None → AllByRecursion (λ x. f x ≡ None) xs
 first_none {A} {E} f [] h = tt
 first_none {A} {E} f (x ∷ xs) h = let k = or_else_none (f x) (first_error f xs) h in (k.0, first_none f xs k.1)
 
-pub first_some : {A E : Type 0} (f : A → Option E) (P : A → Type 0) (Q : E → Type 0) (e : E) → ((x : A) → P x → f x ≡ Some e → Q e) → (xs : List A) → Every P xs → first_error f xs ≡ Some e → Q e
+pub first_some : {A E : Type 0} (f : A → Option E) (P : A → Type 0) (Q : E → Type 0) (e : E) → ((x : A) → P x → f x ≡ Some e → Q e) → (xs : List A) → AllByRecursion P xs → first_error f xs ≡ Some e → Q e
 first_some {A} {E} f P Q e g [] h k = absurd (let c : None ≡ Some e = k in cc)
 first_some {A} {E} f P Q e g (x ∷ xs) h k = at f P Q e g x h.0 (first_error f xs) (first_some f P Q e g xs h.1) (f x) refl k
   where
@@ -103,9 +103,9 @@ premise_none v s g n k j (Shape true w) h = refl
 premise_none v s g n k j (Shape false w) h = absurd (no_some _ h)
 premise_none v s g n k j (Same a b rs) h =
     let ps = same_points g.equations j.ctx.vars j.ctx.premises a b rs in
-    every_all IsTruePoint ps (to_true v s ps (first_none (point_error v) ps (same_none n k (first_error (point_error v) ps) (scope_none n k (list_all is_placed ps) _ (scope_none n k (are_compared j.ctx.vars j.ctx.premises a b) _ h)))))
+    All-from_recursion IsTruePoint ps (to_true v s ps (first_none (point_error v) ps (same_none n k (first_error (point_error v) ps) (scope_none n k (list_all is_placed ps) _ (scope_none n k (are_compared j.ctx.vars j.ctx.premises a b) _ h)))))
   where
-    to_true : (v : Decision) → IsSoundly v → (ps : List Point) → Every (λ p. point_error v p ≡ None) ps → Every IsTruePoint ps
+    to_true : (v : Decision) → IsSoundly v → (ps : List Point) → AllByRecursion (λ p. point_error v p ≡ None) ps → AllByRecursion IsTruePoint ps
     to_true v s [] h = tt
     to_true v s (p ∷ ps) h = (point_none v s p h.0, to_true v s ps h.1)
 premise_none v s g n k j (Passed l) h = absurd (no_some _ h)
@@ -123,7 +123,7 @@ point_refusal_none n k (Some e) h = absurd (no_some _ h)
 -- a question without a refusal is true
 pub question_none : (v : Decision) → IsSoundly v → (g : Program) (q : Question) → refusal v g q ≡ None → IsTrueQuestion g q
 question_none v s g (OfType d c) h = claim_none v s c (BadType d) (TypeBound d) h
-question_none v s g (OfDecl d c) h = claim_none v s c (BadDecl d) (DeclBound d) h
+question_none v s g (OfDecl d c) h = claim_none v s c (BadDecl d (length (defs g))) (DeclBound d (length (defs g))) h
 question_none v s g (OfEquation n k p) h = point_none v s p (point_refusal_none n k (point_error v p) h)
 question_none v s g (OfLimit n l) h = absurd (no_some _ h)
 question_none v s g (OfPremise n k j p) h = premise_none v s g n k j p h
@@ -158,7 +158,7 @@ premise_some v r g n k j (Shape true w) e t h = absurd (let c : None ≡ Some e 
 premise_some v r g n k j (Shape false w) e t h = absurd (true≢false (sym t))
 premise_some v r g n k j (Same a b rs) e t h =
     let ps = same_points g.equations j.ctx.vars j.ctx.premises a b rs in
-    scope_some n k (are_compared j.ctx.vars j.ctx.premises a b) _ e (scope_some n k (list_all is_placed ps) _ e (same_some n k (first_error (point_error v) ps) e (λ x d. first_some (point_error v) IsTruePoint (λ y. is_stop y ≡ true) x (λ p i m. point_some v r p x i m) ps (all_every IsTruePoint ps t) d))) h
+    scope_some n k (are_compared j.ctx.vars j.ctx.premises a b) _ e (scope_some n k (list_all is_placed ps) _ e (same_some n k (first_error (point_error v) ps) e (λ x d. first_some (point_error v) IsTruePoint (λ y. is_stop y ≡ true) x (λ p i m. point_some v r p x i m) ps (recursion_from_All IsTruePoint ps t) d))) h
 premise_some v r g n k j (Passed l) e t h = absurd t
 
 pub point_refusal_some : (n k : ℕ) (o : Option SameErr) (e : Refusal) → ((x : SameErr) → o ≡ Some x → is_stop x ≡ true) → point_refusal n k o ≡ Some e → is_bound e ≡ true
@@ -172,7 +172,7 @@ point_refusal_some n k (Some same.Memory) e f h = absurd (true≢false (sym (f s
 -- a refusal of a true question is a bound
 pub question_some : (v : Decision) → IsRefuting v → (g : Program) (q : Question) (e : Refusal) → IsTrueQuestion g q → refusal v g q ≡ Some e → is_bound e ≡ true
 question_some v r g (OfType d c) e t h = claim_some v r c (BadType d) (TypeBound d) (λ l. refl) e t h
-question_some v r g (OfDecl d c) e t h = claim_some v r c (BadDecl d) (DeclBound d) (λ l. refl) e t h
+question_some v r g (OfDecl d c) e t h = claim_some v r c (BadDecl d (length (defs g))) (DeclBound d (length (defs g))) (λ l. refl) e t h
 question_some v r g (OfEquation n k p) e t h = point_refusal_some n k (point_error v p) e (λ x d. point_some v r p x t d) h
 question_some v r g (OfLimit n l) e t h = absurd t
 question_some v r g (OfPremise n k j p) e t h = premise_some v r g n k j p e t h

@@ -9,7 +9,10 @@ use Rattle.rast_rules.specs.Rules.{Program, Decl, premises, children, child_at, 
 use Rattle.rast_rules.specs.declared.judgement.Judgement.{Judgement}
 use Rattle.rast_types.specs.declared.ty.Ty.{Ty}
 use Rattle.rast_check.specs.Questions.{Question, OfPremise, IsTrueQuestion, from_number, premise_questions, node_and_below, node_questions, body_questions, IsForward}
-use Rattle.rast_check.proofs.Every.{Every, every_all, all_every, every_append, every_left, every_right, every_map, every_mapped, every_flat, every_flattened, every_at, zip_every, zip_at, zip_second}
+use Rattle.rast_check.proofs.Every.{every_append, every_map, every_mapped, every_flat, every_flattened, zip_every, zip_at, zip_second}
+use Rattle.std.proofs.lemmas.List.Elements.{All-from_recursion, recursion_from_All}
+use Rattle.std.specs.List.{AllByRecursion}
+use Rattle.rast_equal.proofs.Every.{all_get, every_get, every_left, every_right}
 
 -- ---- a node has a child's judgement for each child
 
@@ -39,7 +42,7 @@ one_each g j nd = length-map (child_at g j nd (head_at g j)) limited ∙ made_of
 -- ---- true questions: each node with a judgement is right
 
 abbrev pub True : Program → List Question → Type 0
-True g qs = Every (IsTrueQuestion g) qs
+True g qs = AllByRecursion (IsTrueQuestion g) qs
 
 -- the questions below a node are true, to a depth that no branch passes
 pub record Covered (g : Program) (n : ℕ) (j : Judgement) : Type 0 where
@@ -53,7 +56,7 @@ record Opened (g : Program) (n : ℕ) (j : Judgement) (nd : Node) : Type 0 where
   fuel : ℕ
   enough : length g.nodes ≤ fuel + n + 1
   own : True g (premise_questions g n j nd)
-  below : Every (λ e. True g (node_questions g fuel e)) (zip (kids nd) (children g j nd))
+  below : AllByRecursion (λ e. True g (node_questions g fuel e)) (zip (kids nd) (children g j nd))
 
 open_at : (g : Program) (n : ℕ) (j : Judgement) (nd : Node) → slice_get g.nodes n ≡ Some nd → (f : ℕ) → n < length g.nodes → length g.nodes ≤ f + n → True g (node_questions g f (n, Ok j)) → Opened g n j nd
 open_at g n j nd e zero w k h = absurd (omega arith)
@@ -86,13 +89,13 @@ body_asked g h k d e =
     let all = every_flattened (IsTrueQuestion g) (λ (x : ℕ × Decl). node_questions g (length g.nodes) (x.1.body, limited (root x.0 x.1))) (from_number 0 g.decls) h in
     let found : ℕ × Decl = (k, d) in
     let at : slice_get (from_number 0 g.decls) k ≡ Some found = subst (λ (m : ℕ). let z : ℕ × Decl = (m, d) in slice_get (from_number 0 g.decls) k ≡ Some z) (omega arith) (numbered_at g.decls 0 k d e) in
-    every_at (λ (x : ℕ × Decl). True g (node_questions g (length g.nodes) (x.1.body, limited (root x.0 x.1)))) (from_number 0 g.decls) k (k, d) at all
+    every_get (λ (x : ℕ × Decl). True g (node_questions g (length g.nodes) (x.1.body, limited (root x.0 x.1)))) (from_number 0 g.decls) k (k, d) all at
 
 pub body_within : (g : Program) → IsForward g → (k : ℕ) (d : Decl) → slice_get g.decls k ≡ Some d → d.body < length g.nodes
-body_within g w k d e = every_at (λ (x : Decl). x.body < length g.nodes) g.decls k d e (all_every (λ (x : Decl). x.body < length g.nodes) g.decls w.bodies)
+body_within g w k d e = all_get (λ (x : Decl). x.body < length g.nodes) g.decls k d w.bodies e
 
 kid_within : (g : Program) → IsForward g → (n : ℕ) (nd : Node) (i m : ℕ) → slice_get g.nodes n ≡ Some nd → slice_get (kids nd) i ≡ Some m → (n < m) × (m < length g.nodes)
-kid_within g w n nd i m e k = every_at (λ x. (n < x) × (x < length g.nodes)) (kids nd) i m k (all_every (λ x. (n < x) × (x < length g.nodes)) (kids nd) (w.kids n nd e))
+kid_within g w n nd i m e k = all_get (λ x. (n < x) × (x < length g.nodes)) (kids nd) i m (w.kids n nd e) k
 
 pub covered : (g : Program) → IsForward g → True g (body_questions g) → (n : ℕ) (j : Judgement) → IsJudgement g n j → Covered g n j
 covered g w h n j (at_root k d i e l) =
@@ -111,7 +114,7 @@ covered g w h m c (at_child n j nd i kid child p e k s) =
       fuel = o.fuel;
       within = b.1;
       enough = omega arith;
-      asked = every_at (λ x. True g (node_questions g o.fuel x)) (zip (kids nd) (children g j nd)) i (kid, Ok child) (zip_at (kids nd) (children g j nd) i kid (Ok child) k s) o.below;
+      asked = every_get (λ x. True g (node_questions g o.fuel x)) (zip (kids nd) (children g j nd)) i (kid, Ok child) o.below (zip_at (kids nd) (children g j nd) i kid (Ok child) k s);
     }
 
 -- a judgement that is asked for is within the limits
@@ -126,11 +129,11 @@ made_roots g w h k d e = asked_made g (length g.nodes) d.body (limited (root k d
 right_node : (g : Program) → IsForward g → (n : ℕ) (j : Judgement) (nd : Node) → slice_get g.nodes n ≡ Some nd → Opened g n j nd → IsRight g j nd
 right_node g w n j nd e o =
     record {
-      premises = every_all (λ p. IsTruePremise g j p.1) (premises g j nd) (every_mapped (IsTrueQuestion g) (λ p. OfPremise n p.0 j p.1) (premises g j nd) o.own);
-      children = every_all IsMade (children g j nd)
+      premises = All-from_recursion (λ p. IsTruePremise g j p.1) (premises g j nd) (every_mapped (IsTrueQuestion g) (λ p. OfPremise n p.0 j p.1) (premises g j nd) o.own);
+      children = All-from_recursion IsMade (children g j nd)
           (zip_second (λ x. True g (node_questions g o.fuel x)) (λ m. (n < m) × (m < length g.nodes)) IsMade (kids nd) (children g j nd) (one_each g j nd)
           (λ m r q t. asked_made g o.fuel m r q.1 (reach (length g.nodes) o.fuel n m o.enough q.0) t)
-          (all_every (λ m. (n < m) × (m < length g.nodes)) (kids nd) (w.kids n nd e)) o.below);
+          (recursion_from_All (λ m. (n < m) × (m < length g.nodes)) (kids nd) (w.kids n nd e)) o.below);
     }
   where
     reach : (l f n m : ℕ) → l ≤ f + n + 1 → n < m → l ≤ f + m
@@ -165,10 +168,10 @@ asked_true g a (suc f) n (Ok j) p =
     let o = a.nodes n j p in
     subst (λ (x : Option Node). True g (node_and_below g (node_questions g f) n j x)) (sym o.1)
     (every_append (IsTrueQuestion g) (premise_questions g n j o.0) (flat_map (node_questions g f) (zip (kids o.0) (children g j o.0)))
-    (every_map (IsTrueQuestion g) (λ q. OfPremise n q.0 j q.1) (premises g j o.0) (all_every (λ q. IsTruePremise g j q.1) (premises g j o.0) o.2.premises))
+    (every_map (IsTrueQuestion g) (λ q. OfPremise n q.0 j q.1) (premises g j o.0) (recursion_from_All (λ q. IsTruePremise g j q.1) (premises g j o.0) o.2.premises))
     (every_flat (IsTrueQuestion g) (node_questions g f) (zip (kids o.0) (children g j o.0))
     (zip_every (λ x. True g (node_questions g f x)) (kids o.0) (children g j o.0)
-    (λ i m r k s. asked_true g a f m r (judged_child g n j o.0 i m p o.1 k r s (every_at IsMade (children g j o.0) i r s (all_every IsMade (children g j o.0) o.2.children)))))))
+    (λ i m r k s. asked_true g a f m r (judged_child g n j o.0 i m p o.1 k r s (all_get IsMade (children g j o.0) i r o.2.children s))))))
 
 root_judged : (g : Program) (k : ℕ) (d : Decl) → slice_get g.decls k ≡ Some d → (r : Result Judgement Stop) → limited (root k d) ≡ r → IsMade r → Judged g d.body r
 root_judged g k d e (Ok j) l t = at_root k d j e l
@@ -177,7 +180,7 @@ root_judged g k d e (Err s) l t = absurd t
 pub asked_bodies : (g : Program) → IsAccepted g → True g (body_questions g)
 asked_bodies g a = every_flat (IsTrueQuestion g) (λ (x : ℕ × Decl). node_questions g (length g.nodes) (x.1.body, limited (root x.0 x.1))) (from_number 0 g.decls) (each g a 0 g.decls (λ i d e. subst (λ (m : ℕ). slice_get g.decls m ≡ Some d) (omega arith) e))
   where
-    each : (g : Program) → IsAccepted g → (k : ℕ) (ds : List Decl) → ((i : ℕ) (d : Decl) → slice_get ds i ≡ Some d → slice_get g.decls (k + i) ≡ Some d) → Every (λ (x : ℕ × Decl). True g (node_questions g (length g.nodes) (x.1.body, limited (root x.0 x.1)))) (from_number k ds)
+    each : (g : Program) → IsAccepted g → (k : ℕ) (ds : List Decl) → ((i : ℕ) (d : Decl) → slice_get ds i ≡ Some d → slice_get g.decls (k + i) ≡ Some d) → AllByRecursion (λ (x : ℕ × Decl). True g (node_questions g (length g.nodes) (x.1.body, limited (root x.0 x.1)))) (from_number k ds)
     each g a k [] f = tt
     each g a k (d ∷ ds) f =
         let e : slice_get g.decls k ≡ Some d = subst (λ (m : ℕ). slice_get g.decls m ≡ Some d) (omega arith) (f 0 d refl) in (

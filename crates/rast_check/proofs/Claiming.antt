@@ -1,6 +1,6 @@
 -- What the rules ask of a type in scope is in scope.
 use Rattle.std.proofs.Common.{arith, ◌≡◌, ℕ, ◌+◌, ◌<◌, ◌≤◌, ⊎_elim, Bool, true, ◌&&◌, List, [], ◌∷◌, ◌++◌, map, sym, ap, ap₂, ◌∙◌, subst}
-use Rattle.std.specs.List.{list_all}
+use Rattle.std.specs.List.{list_all, AllByRecursion}
 use Rattle.std.proofs.lemmas.Bool.{cases_lt, le-leb}
 use Rattle.rast_cooper.proofs.Closed.{and_true}
 use Rattle.rast_cooper.specs.Divisors.{divisors_step}
@@ -23,7 +23,7 @@ use Rattle.rast_types.specs.declared.ty.Ty.{Ty, roll-Ty}
 use Rattle.rast_types.specs.declared.ty.Ty.TheOpen.{Ty-F, One, Plus, With, Tensor, Lolli, Named, Ex, All as Each, Assert, Assume, Pays, Gets, Next}
 use Rattle.rast_types.specs.declared.ty.Ty.TheVariants as ty
 use Rattle.rast_check.specs.Questions.{is_asked}
-use Rattle.rast_check.proofs.Every.{Every, every_append}
+use Rattle.rast_check.proofs.Every.{every_append}
 
 -- a rule on numbers in its scope
 abbrev pub InScope : Claim → Type 0
@@ -43,7 +43,7 @@ asked_here n ps goal few w h = ap₂ (λ a b. a && b) (ap₂ (λ a b. a && b) (l
 pub natural_asked : (n : ℕ) (ps : List Formula) (l : Linear) → n ≤ 16 → AreWithin n ps → is_closed n l ≡ true → is_asked n ps (nonneg l) ≡ true
 natural_asked n ps l few w h = asked_here n ps (nonneg l) few w (natural_within n l h)
 
-each_natural : (n : ℕ) (ps : List Formula) (ls : List Linear) → n ≤ 16 → AreWithin n ps → list_all (is_closed n) ls ≡ true → Every InScope (natural_claims n ps ls)
+each_natural : (n : ℕ) (ps : List Formula) (ls : List Linear) → n ≤ 16 → AreWithin n ps → list_all (is_closed n) ls ≡ true → AllByRecursion InScope (natural_claims n ps ls)
 each_natural n ps [] few w h = tt
 each_natural n ps (l ∷ ls) few w h = let g = and_true (is_closed n l) (list_all (is_closed n) ls) h in (natural_asked n ps l few w g.0, each_natural n ps ls few w g.1)
 
@@ -52,13 +52,13 @@ more_premises n ps f w h m le = all_append (is_within m) ps f (w m le) (h m le)
 
 -- of a type in a scope of at most 16 variables
 Scoped : Ty → Type 0
-Scoped a = (t : Table) (n : ℕ) (ps : List Formula) → n ≤ 16 → AreWithin n ps → IsWithinType n a → Every InScope (claims_of t n ps a)
+Scoped a = (t : Table) (n : ℕ) (ps : List Formula) → n ≤ 16 → AreWithin n ps → IsWithinType n a → AllByRecursion InScope (claims_of t n ps a)
 
-is_claims : (xs ys : List Claim) → xs ≡ ys → Every InScope ys → Every InScope xs
-is_claims xs ys e h = subst (Every InScope) (sym e) h
+is_claims : (xs ys : List Claim) → xs ≡ ys → AllByRecursion InScope ys → AllByRecursion InScope xs
+is_claims xs ys e h = subst (AllByRecursion InScope) (sym e) h
 
 -- in one more variable the rules stop, or it is in scope
-one_more : (a : Ty) → Scoped a → (t : Table) (n : ℕ) (ps : List Formula) → AreWithin n ps → IsWithinType (n + 1) a → Every InScope (claims_of t (n + 1) ps a)
+one_more : (a : Ty) → Scoped a → (t : Table) (n : ℕ) (ps : List Formula) → AreWithin n ps → IsWithinType (n + 1) a → AllByRecursion InScope (claims_of t (n + 1) ps a)
 unfolding Scoped
 one_more a s t n ps w h =
     ⊎_elim (λ (lt : n + 1 < 17). s t (n + 1) ps (omega arith) (λ m le. w m (omega arith)) h)
@@ -67,7 +67,7 @@ one_more a s t n ps w h =
 abbrev parts : List (ℕ × Such Scoped) → List (ℕ × Ty)
 parts ts = map (λ e. (e.0, e.1.0)) ts
 
-scoped_each : (ts : List (ℕ × Such Scoped)) (t : Table) (n : ℕ) (ps : List Formula) → n ≤ 16 → AreWithin n ps → AreWithinTypes n (parts ts) → Every InScope (choice_claims t n ps (parts ts))
+scoped_each : (ts : List (ℕ × Such Scoped)) (t : Table) (n : ℕ) (ps : List Formula) → n ≤ 16 → AreWithin n ps → AreWithinTypes n (parts ts) → AllByRecursion InScope (choice_claims t n ps (parts ts))
 unfolding Scoped
 scoped_each [] t n ps few w h = tt
 scoped_each (e ∷ ts) t n ps few w h =
@@ -100,6 +100,6 @@ scoped_step (Next l a) = subst Scoped (sym (ty.rolls-Next l a.0)) (λ t n ps few
     is_claims _ _ (claims_next t n ps few l a.0) (natural_asked n ps l few w (g.0 n (omega arith)), (tt, a.1 t n ps few w g.1)))
 
 -- what the rules ask of a type in scope is in scope
-pub claims_scoped : (t : Table) (n : ℕ) (ps : List Formula) (a : Ty) → n ≤ 16 → AreWithin n ps → IsWithinType n a → Every InScope (claims_of t n ps a)
+pub claims_scoped : (t : Table) (n : ℕ) (ps : List Formula) (a : Ty) → n ≤ 16 → AreWithin n ps → IsWithinType n a → AllByRecursion InScope (claims_of t n ps a)
 unfolding Scoped
 claims_scoped t n ps a few w h = induction Scoped scoped_step a t n ps few w h

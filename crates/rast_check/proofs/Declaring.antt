@@ -16,13 +16,14 @@ use Rattle.rast_check.specs.Lifted.{type_refusal, decl_refusal, equation_refusal
 use Rattle.rast_check.specs.Questions.{Question, OfDecl, IsTrueQuestion, from_number, uses_claims, decl_claims, type_questions, equation_questions}
 use Rattle.rast_check.specs.Refusals.{Clears, IsRefusal}
 use Rattle.rast_check.specs.declared.answer.CheckErr.{CheckErr}
-use Rattle.rast_check.proofs.Every.{every_all, all_every, every_map}
+use Rattle.rast_check.proofs.Every.{every_map}
+use Rattle.std.proofs.lemmas.List.Elements.{All-from_recursion, recursion_from_All}
 use Rattle.rast_check.proofs.Leads.{error_of, refusal_is}
 use Rattle.rast_check.proofs.Lifts.{types_error, claims_decl, equations_error}
 use Rattle.rast_check.proofs.Parts.{valid_types, good_equations}
 
 pub types_clear : (g : Program) → table_refusal (defs g) 0 (defs g) ≡ None → IsValidTable (defs g) → Clears g (type_questions g)
-types_clear g n h = (types_error g ∙ ap type_refusal n, every_all (IsTrueQuestion g) (type_questions g) (valid_types g h))
+types_clear g n h = (types_error g ∙ ap type_refusal n, All-from_recursion (IsTrueQuestion g) (type_questions g) (valid_types g h))
 
 pub types_refused : (g : Program) (why : TypeErr) (e : CheckErr) → IsTypeErr (table_refusal (defs g) 0 (defs g)) why → ((o : Option TypeErr) → IsTypeErr o why → IsRefusal (type_refusal o) e) → IsRefusal (error_of g (type_questions g)) e
 types_refused g why e h f = refusal_is _ _ e (sym (types_error g)) (f (table_refusal (defs g) 0 (defs g)) h)
@@ -32,7 +33,7 @@ types_refused g why e h f = refusal_is _ _ e (sym (types_error g)) (f (table_ref
 pub equations_clear : (g : Program) (es : List Equation) → es ≡ g.equations → equations_fault (defs g) es 1 es ≡ None → IsGoodTable (defs g) es → Clears g (equation_questions g)
 equations_clear g es e n h = (
   equations_error g ∙ ap equation_refusal (subst (λ (xs : List Equation). equations_fault (defs g) xs 1 xs ≡ None) e n),
-  every_all (IsTrueQuestion g) (equation_questions g) (good_equations g (subst (IsGoodTable (defs g)) e h)),
+  All-from_recursion (IsTrueQuestion g) (equation_questions g) (good_equations g (subst (IsGoodTable (defs g)) e h)),
 )
 
 pub equations_refused : (g : Program) (es : List Equation) (why : EquationErr) (e : CheckErr) → es ≡ g.equations → unless_memory why.why (equations_fault (defs g) es 1 es ≡ Some why) →
@@ -47,14 +48,14 @@ pub type_clear : (g : Program) (k n : ℕ) (ps : List Formula) (a : Ty) → ps �
 type_clear g k n ps a e h v =
     let r = subst (λ (qs : List Formula). alone (defs g) n qs a ≡ None) e h in
     let w = subst (λ (qs : List Formula). IsValidType (defs g) n qs a) e v in (
-      claims_decl g k (length (defs g)) (claims_of (defs g) n [] a) ∙ ap (decl_refusal k) r,
-      every_all (IsTrueQuestion g) (map (OfDecl k) (claims_of (defs g) n [] a)) (every_map (IsTrueQuestion g) (OfDecl k) (claims_of (defs g) n [] a) (all_every IsTrueClaim (claims_of (defs g) n [] a) w)),
+      claims_decl g k (claims_of (defs g) n [] a) ∙ ap (decl_refusal k) r,
+      All-from_recursion (IsTrueQuestion g) (map (OfDecl k) (claims_of (defs g) n [] a)) (every_map (IsTrueQuestion g) (OfDecl k) (claims_of (defs g) n [] a) (recursion_from_All IsTrueClaim (claims_of (defs g) n [] a) w)),
     )
 
 pub type_refused : (g : Program) (k n : ℕ) (ps : List Formula) (a : Ty) (why : TypeErr) (e : CheckErr) → ps ≡ [] → IsTypeErr (alone (defs g) n ps a) why →
     ((o : Option TypeErr) → IsTypeErr o why → IsRefusal (decl_refusal k o) e) → IsRefusal (error_of g (map (OfDecl k) (claims_of (defs g) n [] a))) e
 type_refused g k n ps a why e d h f =
-    refusal_is _ _ e (sym (claims_decl g k (length (defs g)) (claims_of (defs g) n [] a)))
+    refusal_is _ _ e (sym (claims_decl g k (claims_of (defs g) n [] a)))
     (f (alone (defs g) n [] a) (subst (λ (qs : List Formula). IsTypeErr (alone (defs g) n qs a) why) d h))
 
 -- ---- the used types of a declaration

@@ -17,29 +17,31 @@ use Rattle.rast_types.specs.declared.equation.Ref.{Ref}
 use Rattle.rast_types.specs.declared.head.Exposed.{Exposed}
 use Rattle.rast_types.specs.declared.ty.Ty.{Ty}
 use Rattle.rast_check.proofs.Claiming.{InScope, claims_scoped}
-use Rattle.rast_check.proofs.Every.{Every, every_append, every_flat, every_left, every_map, every_right, every_to}
+use Rattle.rast_check.proofs.Every.{every_append, every_flat, every_map, every_to}
+use Rattle.std.specs.List.{AllByRecursion}
+use Rattle.rast_equal.proofs.Every.{every_left, every_right}
 use Rattle.rast_check.proofs.Meeting.{heads_of_fit}
 use Rattle.rast_check.proofs.Pointing.{PointIn, asked_in, made_in, serve_in}
 
 abbrev pub PremiseIn : ℕ × Point → Type 0
 PremiseIn x = PointIn x.1
 
-tagged_in : (k : ℕ) (xs : List Point) → Every PointIn xs → Every PremiseIn (tagged k xs)
+tagged_in : (k : ℕ) (xs : List Point) → AllByRecursion PointIn xs → AllByRecursion PremiseIn (tagged k xs)
 tagged_in k xs h = every_map PremiseIn (λ (x : Point). (k, x)) xs h
 
-claim_in : (c : Claim) → InScope c → Every PointIn (claim_points c)
+claim_in : (c : Claim) → InScope c → AllByRecursion PointIn (claim_points c)
 claim_in (CAsks rule n ps goal) h = (h, tt)
 claim_in (CShape rule n true) h = tt
 claim_in (CShape rule n false) h = (tt, tt)
 claim_in COver h = (tt, tt)
 
-side_in : (t : Table) (e : Equation) (a : Ty) → IsFitEquation e → IsWithinType e.vars a → Every PointIn (side_points t e.vars (e.premise ∷ []) a)
+side_in : (t : Table) (e : Equation) (a : Ty) → IsFitEquation e → IsWithinType e.vars a → AllByRecursion PointIn (side_points t e.vars (e.premise ∷ []) a)
 side_in t e a f h =
     every_flat PointIn claim_points (claims_of t e.vars (e.premise ∷ []) a)
-    (every_to InScope (λ c. Every PointIn (claim_points c)) claim_in (claims_of t e.vars (e.premise ∷ []) a)
+    (every_to InScope (λ c. AllByRecursion PointIn (claim_points c)) claim_in (claims_of t e.vars (e.premise ∷ []) a)
     (claims_scoped t e.vars (e.premise ∷ []) a f.few (premise_within e.vars e.premise (e.premise ∷ []) refl f.premise) h))
 
-parts_in : (es : List Equation) (rs : List Ref) (ms : List Met) → All IsFitEquation es → Every IsFitMet ms → Every PointIn (parts_served es rs ms)
+parts_in : (es : List Equation) (rs : List Ref) (ms : List Met) → All IsFitEquation es → AllByRecursion IsFitMet ms → AllByRecursion PointIn (parts_served es rs ms)
 parts_in es rs [] f h = tt
 parts_in es rs (m ∷ ms) f h = serve_in es (or_refl rs (m ∷ ms)) (m ∷ ms) f h
 
@@ -51,7 +53,7 @@ unfolding exposed
 side_exposed t n a d h = exposed_fit t n a (exposed (exposed_type t n a)) d h refl
 
 -- all that the premises of an equation in scope ask
-pub equation_in : (t : Table) (es : List Equation) (e : Equation) → All IsFitTypeDef t → All IsFitEquation es → IsFitEquation e → Every PremiseIn (equation_points t es e)
+pub equation_in : (t : Table) (es : List Equation) (e : Equation) → All IsFitTypeDef t → All IsFitEquation es → IsFitEquation e → AllByRecursion PremiseIn (equation_points t es e)
 unfolding exposed
 equation_in t es e d fs f =
     let p = top e.vars (e.premise ∷ []) in

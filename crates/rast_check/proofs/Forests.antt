@@ -14,7 +14,7 @@ use Rattle.rast_rules.specs.Plan.{IsBody, IsKid, IsForest}
 use Rattle.rast_rules.specs.Rules.{Program, Decl}
 use Rattle.rast_check.specs.Formed.{answer, is_counted, is_formed, is_scoped}
 use Rattle.rast_check.specs.Questions.{Decision, TypeBound, check_answer}
-use Rattle.rast_check.proofs.Every.{all_every, every_at}
+use Rattle.rast_equal.proofs.Every.{all_get}
 
 some_same : {X : Type 0} (x y : X) → Some x ≡ Some y → x ≡ y
 some_same {X} x y e = cc
@@ -65,10 +65,10 @@ module _ (g : Program) (w : IsWellMade g) where
   once m lt = let p = w.placed m lt in let f = counted_flat (one_at m) kids g.nodes in omega arith
 
   body_within : (k m : ℕ) → IsBody g k m → m < length g.nodes
-  body_within k m b = subst (λ n. n < length g.nodes) b.is (every_at (IsMadeDecl g) g.decls k b.decl b.there (all_every (IsMadeDecl g) g.decls w.decls)).body
+  body_within k m b = subst (λ n. n < length g.nodes) b.is (all_get (IsMadeDecl g) g.decls k b.decl w.decls b.there).body
 
   kid_after : (n i m : ℕ) → IsKid g n i m → (n < m) × (m < length g.nodes)
-  kid_after n i m k = every_at (λ m. (n < m) × (m < length g.nodes)) (kids k.node) i m k.is (all_every (λ m. (n < m) × (m < length g.nodes)) (kids k.node) (w.forward n k.node k.there))
+  kid_after n i m k = all_get (λ m. (n < m) × (m < length g.nodes)) (kids k.node) i m (w.forward n k.node k.there) k.is
 
   body_counts : (k m : ℕ) (b : IsBody g k m) → 1 ≤ as_body m b.decl
   body_counts k m b = itself b.decl.body m b.is

@@ -6,12 +6,13 @@ use Rattle.rast_made.specs.WellMade.{IsWellMade, IsMadeDecl}
 use Rattle.rast_rules.specs.Rules.{Program, Decl, defs}
 use Rattle.rast_check.specs.Formed.{is_counted, IsCounted}
 use Rattle.rast_check.specs.Questions.{IsForward}
-use Rattle.rast_check.proofs.Every.{all_every, every_all, every_to}
+use Rattle.rast_check.proofs.Every.{every_to}
+use Rattle.std.proofs.lemmas.List.Elements.{All-from_recursion, recursion_from_All}
 
 pub forward_is : (g : Program) → IsWellMade g → IsForward g
 forward_is g w = record {
   kids = w.forward;
-  bodies = every_all (λ (d : Decl). d.body < length g.nodes) g.decls (every_to (IsMadeDecl g) (λ (d : Decl). d.body < length g.nodes) (λ d m. m.body) g.decls (all_every (IsMadeDecl g) g.decls w.decls));
+  bodies = All-from_recursion (λ (d : Decl). d.body < length g.nodes) g.decls (every_to (IsMadeDecl g) (λ (d : Decl). d.body < length g.nodes) (λ d m. m.body) g.decls (recursion_from_All (IsMadeDecl g) g.decls w.decls));
 }
 
 pub counted_is : (g : Program) → is_counted g ≡ true → IsCounted g

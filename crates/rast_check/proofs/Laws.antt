@@ -2,13 +2,15 @@
 use Rattle.std.proofs.Common.{◌≡◌, true, false, ◌++◌, Some, None, sym, ◌∙◌, true≢false}
 use Rattle.rast_rules.specs.Rules.{Program, IsAccepted}
 use Rattle.rast_check.specs.Questions.{Decision, IsTrueQuestion, Refusal, questions, type_questions, decl_questions, equation_questions, body_questions, refusal, check_answer, is_bound, IsForward}
-use Rattle.rast_check.proofs.Every.{Every, every_to, every_append, every_left, every_right}
+use Rattle.rast_check.proofs.Every.{every_to, every_append}
+use Rattle.std.specs.List.{AllByRecursion}
+use Rattle.rast_equal.proofs.Every.{every_left, every_right}
 use Rattle.rast_check.proofs.Answers.{IsSoundly, IsRefuting, first_none, first_some, question_none, question_some}
 use Rattle.rast_check.proofs.Parts.{types_valid, valid_types, decls_valid, valid_decls, equations_good, good_equations}
 use Rattle.rast_check.proofs.Bodies.{made_roots, right_nodes, asked_bodies}
 
 -- all that is asked is true: the program is accepted
-pub accepted : (g : Program) → IsForward g → Every (IsTrueQuestion g) (questions g) → IsAccepted g
+pub accepted : (g : Program) → IsForward g → AllByRecursion (IsTrueQuestion g) (questions g) → IsAccepted g
 accepted g w h =
     let rest = every_right (IsTrueQuestion g) (type_questions g) (decl_questions g ++ (equation_questions g ++ body_questions g)) h in
     let last = every_right (IsTrueQuestion g) (decl_questions g) (equation_questions g ++ body_questions g) rest in
@@ -21,7 +23,7 @@ accepted g w h =
       nodes = right_nodes g w bodies;
     }
 
-pub all_true : (g : Program) → IsAccepted g → Every (IsTrueQuestion g) (questions g)
+pub all_true : (g : Program) → IsAccepted g → AllByRecursion (IsTrueQuestion g) (questions g)
 all_true g a =
     every_append (IsTrueQuestion g) (type_questions g) (decl_questions g ++ (equation_questions g ++ body_questions g)) (valid_types g a.types)
     (every_append (IsTrueQuestion g) (decl_questions g) (equation_questions g ++ body_questions g) (valid_decls g a.decls)

@@ -1,7 +1,7 @@
 -- Questions one after the other: the first that is refused of all is the first of those that are left.
 use Rattle.std.proofs.Common.{◌≡◌, ℕ, List, [], ◌∷◌, ◌++◌, Option, Some, None, Result, Ok, Err, refl, sym, ap, ◌∙◌, subst, All}
 use Rattle.std.specs.Result.{IsErrAnd}
-use Rattle.std.proofs.lemmas.List.Elements.{All-nil}
+use Rattle.std.proofs.lemmas.List.Elements.{All-nil, All-from_recursion, recursion_from_All}
 use Rattle.rast_equal.specs.declared.answer.SameErr.{SameErr}
 use Rattle.rast_equal.specs.declared.answer.SameErr.TheVariants as same
 use Rattle.rast_equal.specs.declared.validity.TypeErr.{TypeErr}
@@ -12,7 +12,7 @@ use Rattle.rast_check.specs.Questions.{Question, IsTrueQuestion, Refusal, or_els
 use Rattle.rast_check.specs.Refusals.{IsTypeRefusal, IsDeclRefusal, IsEquationRefusal, IsRefusal, Clears, Asked}
 use Rattle.rast_check.specs.declared.answer.CheckErr.{CheckErr}
 use Rattle.rast_check.specs.declared.answer.CheckErr.TheVariants as err
-use Rattle.rast_check.proofs.Every.{every_all, all_every, every_append}
+use Rattle.rast_check.proofs.Every.{every_append}
 
 pub or_else_assoc : {E : Type 0} (a b c : Option E) → or_else (or_else a b) c ≡ or_else a (or_else b c)
 or_else_assoc {E} None b c = refl
@@ -68,7 +68,7 @@ pub clears_none : (g : Program) → Clears g []
 clears_none g = (refl, All-nil (IsTrueQuestion g))
 
 true_both : (g : Program) (xs ys : List Question) → All (IsTrueQuestion g) xs → All (IsTrueQuestion g) ys → All (IsTrueQuestion g) (xs ++ ys)
-true_both g xs ys h k = every_all (IsTrueQuestion g) (xs ++ ys) (every_append (IsTrueQuestion g) xs ys (all_every (IsTrueQuestion g) xs h) (all_every (IsTrueQuestion g) ys k))
+true_both g xs ys h k = All-from_recursion (IsTrueQuestion g) (xs ++ ys) (every_append (IsTrueQuestion g) xs ys (recursion_from_All (IsTrueQuestion g) xs h) (recursion_from_All (IsTrueQuestion g) ys k))
 
 -- these are clear, and then those are answered
 pub asked_after : {X : Type 0} (g : Program) (xs ys : List Question) (r : Result X CheckErr) → Clears g xs → Asked g ys r → Asked g (xs ++ ys) r

@@ -1,5 +1,5 @@
 -- What lower calls answer is what is refused first of their questions.
-use Rattle.std.proofs.Common.{arith, ◌≡◌, ℕ, suc, ◌+◌, List, [], ◌∷◌, map, flat_map, true, false, Option, Some, None, refl, ap, ap₂, ◌∙◌}
+use Rattle.std.proofs.Common.{arith, ◌≡◌, ℕ, suc, ◌+◌, List, [], ◌∷◌, length, map, flat_map, true, false, Option, Some, None, refl, ap, ap₂, ◌∙◌}
 use Rattle.rast_cooper.specs.Verdicts.{verdict, most_states}
 use Rattle.rast_cooper.specs.declared.verdict.Verdict as cooper
 use Rattle.rast_cooper.specs.declared.verdict.Verdict.TheVariants as verdicts
@@ -72,21 +72,22 @@ module _ (g : Program) (k : ℕ) where
   claims_type [] = refl
   claims_type (c ∷ cs) = ap (or_else (refusal searched g (OfType k c))) (claims_type cs) ∙ type_step c cs
 
-  decl_step : (d : ℕ) (c : Claim) (cs : List Claim) → or_else (refusal searched g (OfDecl k c)) (decl_refusal k (type_errs d (first_refusal cs))) ≡ decl_refusal k (type_errs d (first_refusal (c ∷ cs)))
-  decl_step d (CAsks rule n ps goal) cs = by (verdict most_states n ps goal)
+  -- a type of a declaration has for a definition's number how many there are
+  decl_step : (c : Claim) (cs : List Claim) → or_else (refusal searched g (OfDecl k c)) (decl_refusal k (type_errs (length (defs g)) (first_refusal cs))) ≡ decl_refusal k (type_errs (length (defs g)) (first_refusal (c ∷ cs)))
+  decl_step (CAsks rule n ps goal) cs = by (length (defs g)) (verdict most_states n ps goal)
     where
-      by : (w : cooper.Verdict) → or_else (unless (as_verdict w) (λ vs. BadDecl k rule n (Some vs)) (DeclBound k)) (decl_refusal k (type_errs d (first_refusal cs))) ≡ decl_refusal k (type_errs d (or_later (verdict_refusal rule n w) (first_refusal cs)))
-      by verdicts.Holds = refl
-      by (verdicts.Fails vs) = refl
-      by verdicts.NodeLimit = refl
-      by verdicts.NumberLimit = refl
-  decl_step d (CShape rule n true) cs = refl
-  decl_step d (CShape rule n false) cs = refl
-  decl_step d COver cs = refl
+      by : (d : ℕ) (w : cooper.Verdict) → or_else (unless (as_verdict w) (λ vs. BadDecl k d rule n (Some vs)) (DeclBound k d)) (decl_refusal k (type_errs d (first_refusal cs))) ≡ decl_refusal k (type_errs d (or_later (verdict_refusal rule n w) (first_refusal cs)))
+      by d verdicts.Holds = refl
+      by d (verdicts.Fails vs) = refl
+      by d verdicts.NodeLimit = refl
+      by d verdicts.NumberLimit = refl
+  decl_step (CShape rule n true) cs = refl
+  decl_step (CShape rule n false) cs = refl
+  decl_step COver cs = refl
 
-  pub claims_decl : (d : ℕ) (cs : List Claim) → error_of g (map (OfDecl k) cs) ≡ decl_refusal k (type_errs d (first_refusal cs))
-  claims_decl d [] = refl
-  claims_decl d (c ∷ cs) = ap (or_else (refusal searched g (OfDecl k c))) (claims_decl d cs) ∙ decl_step d c cs
+  pub claims_decl : (cs : List Claim) → error_of g (map (OfDecl k) cs) ≡ decl_refusal k (type_errs (length (defs g)) (first_refusal cs))
+  claims_decl [] = refl
+  claims_decl (c ∷ cs) = ap (or_else (refusal searched g (OfDecl k c))) (claims_decl cs) ∙ decl_step c cs
 
 -- ---- definitions
 

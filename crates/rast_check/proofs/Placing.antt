@@ -1,7 +1,7 @@
 -- Types and formulas with their variables replaced by terms of whose first 16 variables only the first n occur are in scope. No length of the terms is needed.
 use Rattle.std.proofs.Common.{◌≡◌, ℕ, suc, zero, ◌+◌, ◌<◌, ◌≤◌, ◌⊎◌, inl, inr, Bool, true, false, ◌&&◌, List, [], ◌∷◌, ◌++◌, map, get_or, sym, ◌∙◌, ap, ap₂, refl, arith, ℤ, pos, ◌*ℤ◌}
 use Rattle.std.specs.Prelude.{nat_lt}
-use Rattle.std.specs.List.{list_all}
+use Rattle.std.specs.List.{list_all, AllByRecursion}
 use Rattle.std.proofs.lemmas.Int.{ints}
 use Rattle.std.proofs.lemmas.Bool.{ltb-true, ltb-false}
 use Rattle.rast_index.specs.Linear.{Linear, is_closed, int_eq, tabulate, part, mixed, replaced, from_parts, variable, weighted}
@@ -29,7 +29,7 @@ use Rattle.rast_types.proofs.Layers.{puts, put_at}
 use Rattle.rast_types.proofs.Puts.{put_choices, parts_put}
 use Rattle.rast_equal.proofs.Instances.{variable_closed}
 use Rattle.rast_equal.specs.Fit.{is_within_type, within_step, IsWithin, IsWithinType}
-use Rattle.rast_check.proofs.Every.{Every, every_append, every_to}
+use Rattle.rast_check.proofs.Every.{every_append, every_to}
 use Rattle.rast_equal.proofs.Fits.{within_at, within_plus, within_with, within_tensor, within_lolli, within_named, within_ex, within_all, within_assert, within_assume, within_pays, within_gets, within_next}
 
 -- ---- terms
@@ -53,7 +53,7 @@ abbrev pub StopsBy : ℕ → Linear → Type 0
 StopsBy n a = (j : ℕ) → n ≤ j → j < 16 → part a (suc j) ≡ pos 0
 
 abbrev pub AllStop : ℕ → List Linear → Type 0
-AllStop n args = Every (StopsBy n) args
+AllStop n args = AllByRecursion (StopsBy n) args
 
 pub closed_stop : (n : ℕ) (args : List Linear) → list_all (is_closed n) args ≡ true → AllStop n args
 closed_stop n [] h = tt

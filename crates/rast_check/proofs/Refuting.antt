@@ -1,6 +1,6 @@
 -- What is refused, and not for a bound, is false.
-use Rattle.std.proofs.Common.{◌≡◌, ℕ, ◌≤◌, Bool, true, false, nat_le, List, [], ◌∷◌, Option, Some, None, Result, Ok, Err, refl, sym, ◌∙◌, subst, true≢false}
-use Rattle.std.specs.List.{list_all}
+use Rattle.std.proofs.Common.{◌≡◌, ℕ, ◌≤◌, Bool, true, false, nat_le, List, [], ◌∷◌, length, Option, Some, None, Result, Ok, Err, refl, sym, ◌∙◌, subst, true≢false}
+use Rattle.std.specs.List.{list_all, AllByRecursion}
 use Rattle.std.specs.Prelude.{IfErr, All}
 use Rattle.std.proofs.lemmas.Bool.{leb-true}
 use Rattle.rast_cooper.proofs.Closed.{and_true}
@@ -16,7 +16,7 @@ use Rattle.rast_equal.specs.declared.validity.TypeErr.TheVariants as type
 use Rattle.rast_equal.specs.Walk.{Point, Asks, Wanted, Never, TooMany, Bound, IsTruePoint, same_points}
 use Rattle.rast_index.specs.Truth.{Follows}
 use Rattle.rast_index.specs.declared.formula.Formula.{Formula}
-use Rattle.rast_rules.specs.Rules.{Program, IsTruePremise, IsAccepted}
+use Rattle.rast_rules.specs.Rules.{Program, defs, IsTruePremise, IsAccepted}
 use Rattle.rast_rules.specs.declared.judgement.Judgement.{Judgement}
 use Rattle.rast_rules.specs.declared.premise.Evidence.TheVariants as why
 use Rattle.rast_rules.specs.declared.premise.Premise.{Premise}
@@ -33,7 +33,7 @@ use Rattle.rast_check.specs.declared.answer.CheckErr.TheVariants as err
 use Rattle.rast_check.proofs.Answers.{first_some, is_stop, point_refusal_some, same_some}
 use Rattle.rast_check.proofs.Claiming.{InScope}
 use Rattle.rast_check.proofs.Decisions.{refuted_by}
-use Rattle.rast_check.proofs.Every.{Every, all_every}
+use Rattle.std.proofs.lemmas.List.Elements.{recursion_from_All}
 use Rattle.rast_check.proofs.Pointing.{PointIn, all_in}
 use Rattle.rast_check.proofs.Laws.{all_true}
 use Rattle.rast_check.proofs.Scoping.{Placed, all_placed}
@@ -81,14 +81,14 @@ point_stops (Never p) e i t h = absurd t
 point_stops TooMany e i t h = absurd t
 point_stops (Bound s) e i t h = absurd t
 
-both_every : {X : Type 0} (P Q : X → Type 0) (xs : List X) → Every P xs → Every Q xs → Every (λ x. P x × Q x) xs
+both_every : {X : Type 0} (P Q : X → Type 0) (xs : List X) → AllByRecursion P xs → AllByRecursion Q xs → AllByRecursion (λ x. P x × Q x) xs
 both_every {X} P Q [] h k = tt
 both_every {X} P Q (x ∷ xs) h k = ((h.0, k.0), both_every P Q xs h.1 k.1)
 
 walk_stops : (xs : List Point) (e : SameErr) → list_all is_placed xs ≡ true → All IsTruePoint xs → first_error (point_error searched) xs ≡ Some e → IsStop e
 walk_stops xs e i t h =
     first_some (point_error searched) (λ (p : Point). PointIn p × IsTruePoint p) IsStop e (λ p k d. point_stops p e k.0 k.1 d) xs
-    (both_every PointIn IsTruePoint xs (all_in xs i) (all_every IsTruePoint xs t)) h
+    (both_every PointIn IsTruePoint xs (all_in xs i) (recursion_from_All IsTruePoint xs t)) h
 
 scope_bound : (n k : ℕ) (b : Bool) (o : Option Refusal) (r : Refusal) → (b ≡ true → o ≡ Some r → IsBound r) → in_scope n k b o ≡ Some r → IsBound r
 scope_bound n k true o r f h = f refl h
@@ -106,7 +106,7 @@ premise_bound g n k j (Passed s) r t h = absurd t
 
 question_bound : (g : Program) (q : Question) (r : Refusal) → Placed q → IsTrueQuestion g q → refusal searched g q ≡ Some r → IsBound r
 question_bound g (OfType d c) r i t h = claim_bound c (BadType d) (TypeBound d) r (λ s. refl) i t h
-question_bound g (OfDecl d c) r i t h = claim_bound c (BadDecl d) (DeclBound d) r (λ s. refl) i t h
+question_bound g (OfDecl d c) r i t h = claim_bound c (BadDecl d (length (defs g))) (DeclBound d (length (defs g))) r (λ s. refl) i t h
 question_bound g (OfEquation n k p) r i t h = point_refusal_some n k (point_error searched p) r (λ x d. point_stops p x i t d) h
 question_bound g (OfLimit n s) r i t h = absurd t
 question_bound g (OfPremise n k j p) r i t h = premise_bound g n k j p r t h
@@ -123,7 +123,7 @@ type_refutes g (type.Bound d s) f h = tt
 type_refutes g type.Memory f h = tt
 
 decl_refutes : (g : Program) (k : ℕ) (e : TypeErr) → IsFormed g → IsDeclRefusal (check_answer searched g) k e → RefutesType g e
-decl_refutes g k (type.Invalid d rule n vs) f h = λ a. shown_refuses g (BadDecl k rule n vs) f h refl a
+decl_refutes g k (type.Invalid d rule n vs) f h = λ a. shown_refuses g (BadDecl k d rule n vs) f h refl a
 decl_refutes g k (type.Bound d s) f h = tt
 decl_refutes g k type.Memory f h = tt
 

@@ -14,7 +14,8 @@ use Rattle.rast_check.specs.Walk.{waits, waiting_questions, left, IsPlaced, Brin
 use Rattle.rast_check.specs.declared.answer.CheckErr.{CheckErr}
 use Rattle.rast_check.specs.declared.walk.Waiting.{Waiting}
 use Rattle.rast_check.proofs.Bodies.{one_each}
-use Rattle.rast_check.proofs.Every.{every_all, all_every, every_left}
+use Rattle.std.proofs.lemmas.List.Elements.{All-from_recursion, recursion_from_All}
+use Rattle.rast_equal.proofs.Every.{every_left}
 use Rattle.rast_check.proofs.Leads.{Leads, error_of, asked_stop, leads_step}
 use Rattle.rast_check.proofs.Walking.{left_last, node_brings, node_refused, node_there, pushed, true_premises_go}
 
@@ -99,7 +100,7 @@ limit_refused g x l p e =
 -- ---- all that wait
 
 pub others_placed : (g : Program) (all rest : List Waiting) (x : Waiting) → All (IsPlaced g) all → all ≡ rest ++ x ∷ [] → All (IsPlaced g) rest
-others_placed g all rest x h e = every_all (IsPlaced g) rest (every_left (IsPlaced g) rest (x ∷ []) (all_every (IsPlaced g) (rest ++ x ∷ []) (subst (All (IsPlaced g)) e h)))
+others_placed g all rest x h e = All-from_recursion (IsPlaced g) rest (every_left (IsPlaced g) rest (x ∷ []) (recursion_from_All (IsPlaced g) (rest ++ x ∷ []) (subst (All (IsPlaced g)) e h)))
 
 pub walk_leads : (g : Program) (all : List Question) (before rest after : List Waiting) (x : Waiting) → Leads g all (left g before) → before ≡ rest ++ x ∷ [] → Brings g (rest ++ x ∷ []) after → Leads g all (left g after)
 walk_leads g all before rest after x l e b = leads_step g all (left g before) b.own (left g after) l (ap (left g) e ∙ b.met) b.clear

@@ -1,6 +1,6 @@
 -- A visit of a node brings what is asked of it, and its children wait in its place.
 use Rattle.std.proofs.Common.{arith, ◌≡◌, ℕ, zero, suc, ◌+◌, ◌-◌, ◌<◌, ◌≤◌, List, [], ◌∷◌, ◌++◌, map, flat_map, zip, length, slice_get, reverse, Bool, true, false, not, Some, Result, Ok, refl, sym, ap, ap₂, ◌∙◌, subst, All, append_assoc, append-nil}
-use Rattle.std.specs.List.{sum_by}
+use Rattle.std.specs.List.{sum_by, AllByRecursion}
 use Rattle.std.proofs.lemmas.List.{reverse-append}
 use Rattle.std.proofs.lemmas.List.Sums.{sum_by-append, sum_by-cons}
 use Rattle.rast_rules.specs.Rules.{Program, children, stops, IsTruePremise}
@@ -16,7 +16,9 @@ use Rattle.rast_check.specs.Refusals.{Clears, IsRefusal}
 use Rattle.rast_check.specs.Walk.{waits, waiting_questions, left, visits, visits_below, waiting_visits, visits_left, IsPlaced, Brings}
 use Rattle.rast_check.specs.declared.answer.CheckErr.{CheckErr}
 use Rattle.rast_check.specs.declared.walk.Waiting.{Waiting}
-use Rattle.rast_check.proofs.Every.{Every, every_all, all_every, every_append, zip_every, every_at}
+use Rattle.rast_check.proofs.Every.{every_append, zip_every}
+use Rattle.rast_equal.proofs.Every.{all_get}
+use Rattle.std.proofs.lemmas.List.Elements.{All-from_recursion, recursion_from_All}
 use Rattle.rast_check.proofs.Leads.{error_of, error_here, refusal_is}
 
 -- ---- lists
@@ -101,11 +103,11 @@ fewer_visits g n d j nd before h e =
 
 -- ---- nodes in their places
 
-reverse_every : {X : Type 0} (P : X → Type 0) (xs : List X) → Every P xs → Every P (reverse xs)
+reverse_every : {X : Type 0} (P : X → Type 0) (xs : List X) → AllByRecursion P xs → AllByRecursion P (reverse xs)
 reverse_every {X} P [] h = tt
-reverse_every {X} P (x ∷ xs) h = subst (Every P) (sym (reverse-append (x ∷ []) xs)) (every_append P (reverse xs) (x ∷ []) (reverse_every P xs h.1) (h.0, tt))
+reverse_every {X} P (x ∷ xs) h = subst (AllByRecursion P) (sym (reverse-append (x ∷ []) xs)) (every_append P (reverse xs) (x ∷ []) (reverse_every P xs h.1) (h.0, tt))
 
-map_every : {X Y : Type 0} (P : Y → Type 0) (f : X → Y) (xs : List X) → Every (λ x. P (f x)) xs → Every P (map f xs)
+map_every : {X Y : Type 0} (P : Y → Type 0) (f : X → Y) (xs : List X) → AllByRecursion (λ x. P (f x)) xs → AllByRecursion P (map f xs)
 map_every {X} {Y} P f [] h = tt
 map_every {X} {Y} P f (x ∷ xs) h = (h.0, map_every P f xs h.1)
 
@@ -115,12 +117,12 @@ kid_placed g n d k r h b = record { deep = (let l = b.0 in omega arith); there =
 pub kids_placed : (g : Program) (n d : ℕ) (j : Judgement) (nd : Node) (before : List Waiting) → IsForward g → slice_get g.nodes n ≡ Some nd → d ≤ n → All (IsPlaced g) before →
     All (IsPlaced g) (before ++ reverse (map (waits (d + 1)) (zip (kids nd) (children g j nd))))
 kids_placed g n d j nd before f e h p =
-    every_all (IsPlaced g) (before ++ reverse (map (waits (d + 1)) (zip (kids nd) (children g j nd))))
-    (every_append (IsPlaced g) before (reverse (map (waits (d + 1)) (zip (kids nd) (children g j nd)))) (all_every (IsPlaced g) before p)
+    All-from_recursion (IsPlaced g) (before ++ reverse (map (waits (d + 1)) (zip (kids nd) (children g j nd))))
+    (every_append (IsPlaced g) before (reverse (map (waits (d + 1)) (zip (kids nd) (children g j nd)))) (recursion_from_All (IsPlaced g) before p)
     (reverse_every (IsPlaced g) (map (waits (d + 1)) (zip (kids nd) (children g j nd)))
     (map_every (IsPlaced g) (waits (d + 1)) (zip (kids nd) (children g j nd))
     (zip_every (λ x. IsPlaced g (waits (d + 1) x)) (kids nd) (children g j nd)
-    (λ i k r a b. kid_placed g n d k r h (every_at (λ m. (n < m) × (m < length g.nodes)) (kids nd) i k a (all_every (λ m. (n < m) × (m < length g.nodes)) (kids nd) (f.kids n nd e))))))))
+    (λ i k r a b. kid_placed g n d k r h (all_get (λ m. (n < m) × (m < length g.nodes)) (kids nd) i k (f.kids n nd e) a))))))
 
 -- ---- premises that are true don't stop
 
@@ -130,7 +132,7 @@ true_goes g j (Shape ok w) h = ap not h
 true_goes g j (Same a b rs) h = refl
 true_goes g j (Passed s) h = absurd h
 
-every_goes : (g : Program) (n : ℕ) (j : Judgement) (ps : List (ℕ × Premise)) → Every (IsTrueQuestion g) (asked_at n j ps) → any_stops ps ≡ false
+every_goes : (g : Program) (n : ℕ) (j : Judgement) (ps : List (ℕ × Premise)) → AllByRecursion (IsTrueQuestion g) (asked_at n j ps) → any_stops ps ≡ false
 every_goes g n j [] h = refl
 every_goes g n j (p ∷ ps) h = ap₂ or_true (true_goes g j p.1 h.0) (every_goes g n j ps h.1)
   where
@@ -139,7 +141,7 @@ every_goes g n j (p ∷ ps) h = ap₂ or_true (true_goes g j p.1 h.0) (every_goe
     or_true false b = b
 
 pub true_premises_go : (g : Program) (n : ℕ) (j : Judgement) (ps : List (ℕ × Premise)) → Clears g (asked_at n j ps) → any_stops ps ≡ false
-true_premises_go g n j ps c = every_goes g n j ps (all_every (IsTrueQuestion g) (asked_at n j ps) c.1)
+true_premises_go g n j ps c = every_goes g n j ps (recursion_from_All (IsTrueQuestion g) (asked_at n j ps) c.1)
 
 -- ---- the visit of a node
 

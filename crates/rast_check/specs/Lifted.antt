@@ -14,8 +14,8 @@ type_refusal (Some type.Memory) = None
 -- the same of a type of a declaration
 abbrev pub decl_refusal : ℕ → Option TypeErr → Option Refusal
 decl_refusal k None = None
-decl_refusal k (Some (type.Invalid def rule vars values)) = Some (BadDecl k rule vars values)
-decl_refusal k (Some (type.Bound def stop)) = Some (DeclBound k stop)
+decl_refusal k (Some (type.Invalid def rule vars values)) = Some (BadDecl k def rule vars values)
+decl_refusal k (Some (type.Bound def stop)) = Some (DeclBound k def stop)
 decl_refusal k (Some type.Memory) = None
 
 abbrev pub equation_refusal : Option EquationErr → Option Refusal

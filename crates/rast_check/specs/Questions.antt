@@ -128,8 +128,9 @@ questions g = type_questions g ++ (decl_questions g ++ (equation_questions g ++ 
 pub data Refusal : Type 0 where
   BadType : (def rule vars : ℕ) (values : Option (List ℕ)) → Refusal
   TypeBound : (def : ℕ) (stop : Stop) → Refusal
-  BadDecl : (decl rule vars : ℕ) (values : Option (List ℕ)) → Refusal
-  DeclBound : (decl : ℕ) (stop : Stop) → Refusal
+  -- a type of a declaration stands alone: for a definition's number it has how many there are
+  BadDecl : (decl def rule vars : ℕ) (values : Option (List ℕ)) → Refusal
+  DeclBound : (decl def : ℕ) (stop : Stop) → Refusal
   BadEquation : (number premise : ℕ) (why : SameErr) → Refusal
   Refused : (node premise : ℕ) (evidence : Evidence) → Refusal
   StopsAt : (node premise : ℕ) (stop : Stop) → Refusal
@@ -198,7 +199,7 @@ point_refusal n k (Some e) = Some (BadEquation n k e)
 
 abbrev pub refusal : Decision → Program → Question → Option Refusal
 refusal v g (OfType d c) = claim_error v c (BadType d) (TypeBound d)
-refusal v g (OfDecl d c) = claim_error v c (BadDecl d) (DeclBound d)
+refusal v g (OfDecl d c) = claim_error v c (BadDecl d (length (defs g))) (DeclBound d (length (defs g)))
 refusal v g (OfEquation n k p) = point_refusal n k (point_error v p)
 refusal v g (OfLimit n s) = Some (Limit n s)
 refusal v g (OfPremise n k j p) = premise_error v g n k j p
@@ -217,7 +218,7 @@ pub record IsForward (g : Program) : Type 0 where
 -- a refusal for a bound or an undecided obligation
 abbrev pub is_bound : Refusal → Bool
 is_bound (TypeBound d s) = true
-is_bound (DeclBound d s) = true
+is_bound (DeclBound d k s) = true
 is_bound (BadEquation n k (same.Bound s)) = true
 is_bound (StopsAt n k s) = true
 is_bound (Limit n s) = true

@@ -21,8 +21,8 @@ IsTypeRefusal o (type.Bound def stop) = o ≡ Some (TypeBound def stop)
 IsTypeRefusal o type.Memory = ⊥
 
 abbrev pub IsDeclRefusal : Option Refusal → ℕ → TypeErr → Type 0
-IsDeclRefusal o k (type.Invalid def rule vars values) = o ≡ Some (BadDecl k rule vars values)
-IsDeclRefusal o k (type.Bound def stop) = o ≡ Some (DeclBound k stop)
+IsDeclRefusal o k (type.Invalid def rule vars values) = o ≡ Some (BadDecl k def rule vars values)
+IsDeclRefusal o k (type.Bound def stop) = o ≡ Some (DeclBound k def stop)
 IsDeclRefusal o k type.Memory = ⊥
 
 abbrev pub IsEquationRefusal : Option Refusal → ℕ → ℕ → SameErr → Type 0

@@ -63,6 +63,34 @@ fn equal_types_need_equations(rt: HostRuntime) -> Result<(), Fail> {
 }
 
 #[test]
+fn variables_of_a_refused_rule_have_their_own_names(rt: HostRuntime) -> Result<(), Fail> {
+    let alloc = rt.alloc();
+    for (text, want) in [
+        (
+            "explicit type t = (?a. 1) * (?b. |{b - 1}> 1)",
+            "refused: type t rule 3 with b = 0\n",
+        ),
+        (
+            "explicit type t = +{s : ?a. |{a}> 1, z : ?b. |{b - 1}> 1}",
+            "refused: type t rule 3 with b = 0\n",
+        ),
+        (
+            "explicit type t{n} = ?a. (?b. 1) * (?c. ({c - 1}) 1)",
+            "refused: type t rule 4 with n = 0, a = 0, c = 0\n",
+        ),
+        (
+            "explicit decl f : (y : ?a. 1) |- (x : ?b. |{b - 1}> 1) proc x <- f y = x <-> y",
+            "refused: decl f rule 3 with b = 0\n",
+        ),
+    ] {
+        let ended = say(alloc, "check", text)?;
+        assert_eq!(rt; ended.status, 1);
+        assert_eq!(rt; ended.written.as_slice(), want.as_bytes());
+    }
+    Ok(())
+}
+
+#[test]
 fn false_constraints_are_named(rt: HostRuntime) -> Result<(), Fail> {
     let alloc = rt.alloc();
     for (text, status, want) in [

@@ -1,12 +1,13 @@
 -- What is seen of a configuration item by item.
-use Rattle.std.proofs.Common.{◌≡◌, ℕ, zero, suc, true, false, ◌+◌, ◌<◌, ◌≤◌, List, [], ◌∷◌, Option, Some, None, refl, sym, ap, ◌∙◌, arith, length, drop}
-use Rattle.std.specs.Prelude.{slice_get, ◌||◌}
+use Rattle.std.proofs.Common.{◌≡◌, ℕ, zero, suc, Bool, true, false, ◌+◌, ◌<◌, ◌≤◌, List, [], ◌∷◌, Option, Some, None, refl, sym, ap, ◌∙◌, arith, length, drop, if◌then◌else◌}
+use Rattle.std.specs.Prelude.{slice_get, is_some, ◌||◌}
+use Rattle.std.specs.Option.{option_or}
 use Rattle.std.proofs.lemmas.List.{drop_more, drop_all}
 use Rattle.std.proofs.lemmas.Option.{slice_get_within, get_or_from_slice_get}
 use Rattle.rast_terms.specs.declared.program.Program.{Program}
 use Rattle.rast_core.specs.Words.{Pid, Item, P, M, Event}
 use Rattle.rast_items.specs.Step.{Next as Does, Ready as DReady, Waits as DWaits, Halted as DHalted, Ended as DEnded, Stuck as DStuck}
-use Rattle.rast_core.specs.Shown.{Shown, next_of, is_ready, some_ready, first_halted, halt_of}
+use Rattle.rast_core.specs.Shown.{Shown, next_of, is_ready, some_ready, first_ready, first_halted, halt_of}
 use Rattle.rast_core.specs.Promises.{Tells, IsTold}
 use Rattle.rast_core.specs.Looks.{IsNextAt, or_halted, ready_item, halted_item}
 use Rattle.rast_core.specs.Edits.{Decides}
@@ -64,17 +65,19 @@ whole_tells DStuck r pid o t h = absurd t
 
 -- ---- the item at a place
 
-pub ready_at : (g : Program) (v : Shown) (x : Option Item) (pid : Pid) (e : Event) → IsNextAt g v x (Some (pid, Ready e)) → (ready_item g v x ≡ true) × (is_ready (next_of g v pid) ≡ true)
+pub ready_at : (g : Program) (v : Shown) (x : Option Item) (pid : Pid) (e : Event) → IsNextAt g v x (Some (pid, Ready e)) → (Some pid ≡ ready_item g v x) × (is_ready (next_of g v pid) ≡ true)
 ready_at g v None pid e h = absurd h
 ready_at g v (Some (M m)) pid e h = absurd h
-ready_at g v (Some (P p)) pid e h = let r = ready_tells (next_of g v p.pid) e h.1 in (r, ap (λ (q : Pid). is_ready (next_of g v q)) h.0 ∙ r)
+ready_at g v (Some (P p)) pid e h =
+    let r = ready_tells (next_of g v p.pid) e h.1 in
+    (ap Some h.0 ∙ ap (λ (b : Bool). if b then Some p.pid else None) (sym r), ap (λ (q : Pid). is_ready (next_of g v q)) h.0 ∙ r)
 
-pub quiet_at : (g : Program) (v : Shown) (x : Option Item) (pid : Pid) (r : Next) → IsNextAt g v x (Some (pid, r)) → ((e : Event) → r ≡ Ready e → ⊥) → ready_item g v x ≡ false
+pub quiet_at : (g : Program) (v : Shown) (x : Option Item) (pid : Pid) (r : Next) → IsNextAt g v x (Some (pid, r)) → ((e : Event) → r ≡ Ready e → ⊥) → ready_item g v x ≡ None
 quiet_at g v None pid r h k = absurd h
 quiet_at g v (Some (M m)) pid r h k = absurd h
-quiet_at g v (Some (P p)) pid r h k = quiet_tells (next_of g v p.pid) r h.1 k
+quiet_at g v (Some (P p)) pid r h k = ap (λ (b : Bool). if b then Some p.pid else None) (quiet_tells (next_of g v p.pid) r h.1 k)
 
-pub message_at : (g : Program) (v : Shown) (x : Option Item) → IsNextAt g v x None → (ready_item g v x ≡ false) × ((o : Outcome) → halted_item g v x o ≡ o)
+pub message_at : (g : Program) (v : Shown) (x : Option Item) → IsNextAt g v x None → (ready_item g v x ≡ None) × ((o : Outcome) → halted_item g v x o ≡ o)
 message_at g v None h = absurd h
 message_at g v (Some (M m)) h = (refl, λ o. refl)
 message_at g v (Some (P p)) h = absurd h
@@ -99,23 +102,37 @@ item_there (x ∷ xs) (suc i) h = item_there xs i (omega (arith, h))
 from_place : (xs : List Item) (i : ℕ) (x : Item) → slice_get xs i ≡ Some x → drop i xs ≡ x ∷ drop (i + 1) xs
 from_place xs i x h = drop_more xs i x (slice_get_within xs i x h) ∙ ap (λ (y : Item). y ∷ drop (i + 1) xs) (get_or_from_slice_get xs i x x h)
 
-ready_cons : (g : Program) (v : Shown) (x : Item) (xs : List Item) → some_ready g v (x ∷ xs) ≡ (ready_item g v (Some x) || some_ready g v xs)
-ready_cons g v (P p) xs = refl
+ready_cons : (g : Program) (v : Shown) (x : Item) (xs : List Item) → first_ready g v (x ∷ xs) ≡ option_or (ready_item g v (Some x)) (first_ready g v xs)
+ready_cons g v (P p) xs = by (is_ready (next_of g v p.pid))
+  where
+    by : (b : Bool) → (if b then Some p.pid else first_ready g v xs) ≡ option_or (if b then Some p.pid else None) (first_ready g v xs)
+    by true = refl
+    by false = refl
 ready_cons g v (M m) xs = refl
 
-ready_place : (g : Program) (v : Shown) (xs : List Item) (i : ℕ) → i < length xs → some_ready g v (drop i xs) ≡ (ready_item g v (slice_get xs i) || some_ready g v (drop (i + 1) xs))
+ready_place : (g : Program) (v : Shown) (xs : List Item) (i : ℕ) → i < length xs → first_ready g v (drop i xs) ≡ option_or (ready_item g v (slice_get xs i)) (first_ready g v (drop (i + 1) xs))
 ready_place g v xs i h =
     let k = item_there xs i h in
-    ap (some_ready g v) (from_place xs i k.0 k.1) ∙ (ready_cons g v k.0 (drop (i + 1) xs) ∙ ap (λ (o : Option Item). ready_item g v o || some_ready g v (drop (i + 1) xs)) (sym k.1))
+    ap (first_ready g v) (from_place xs i k.0 k.1) ∙ (ready_cons g v k.0 (drop (i + 1) xs) ∙ ap (λ (o : Option Item). option_or (ready_item g v o) (first_ready g v (drop (i + 1) xs))) (sym k.1))
 
-pub ready_found : (g : Program) (v : Shown) (xs : List Item) (i : ℕ) → i < length xs → true ≡ ready_item g v (slice_get xs i) → true ≡ some_ready g v (drop i xs)
-ready_found g v xs i h e = sym (ready_place g v xs i h ∙ ap (λ b. b || some_ready g v (drop (i + 1) xs)) (sym e))
+pub ready_found : (g : Program) (v : Shown) (xs : List Item) (i : ℕ) (pid : Pid) → i < length xs → Some pid ≡ ready_item g v (slice_get xs i) → Some pid ≡ first_ready g v (drop i xs)
+ready_found g v xs i pid h e = sym (ready_place g v xs i h ∙ ap (λ (o : Option Pid). option_or o (first_ready g v (drop (i + 1) xs))) (sym e))
 
-pub ready_past : (g : Program) (v : Shown) (xs : List Item) (i : ℕ) → i < length xs → false ≡ ready_item g v (slice_get xs i) → some_ready g v (drop (i + 1) xs) ≡ some_ready g v (drop i xs)
-ready_past g v xs i h e = sym (ready_place g v xs i h ∙ ap (λ b. b || some_ready g v (drop (i + 1) xs)) (sym e))
+pub ready_past : (g : Program) (v : Shown) (xs : List Item) (i : ℕ) → i < length xs → None ≡ ready_item g v (slice_get xs i) → first_ready g v (drop (i + 1) xs) ≡ first_ready g v (drop i xs)
+ready_past g v xs i h e = sym (ready_place g v xs i h ∙ ap (λ (o : Option Pid). option_or o (first_ready g v (drop (i + 1) xs))) (sym e))
 
-pub ready_end : (g : Program) (v : Shown) (xs : List Item) (i : ℕ) → length xs ≤ i → some_ready g v (drop i xs) ≡ false
-ready_end g v xs i h = ap (some_ready g v) (drop_all i xs h)
+pub ready_end : (g : Program) (v : Shown) (xs : List Item) (i : ℕ) → length xs ≤ i → first_ready g v (drop i xs) ≡ None
+ready_end g v xs i h = ap (first_ready g v) (drop_all i xs h)
+
+-- there is a first one exactly where there is some
+pub ready_some : (g : Program) (v : Shown) (xs : List Item) → is_some (first_ready g v xs) ≡ some_ready g v xs
+ready_some g v [] = refl
+ready_some g v (P p ∷ xs) = by (is_ready (next_of g v p.pid)) (ready_some g v xs)
+  where
+    by : (b : Bool) → is_some (first_ready g v xs) ≡ some_ready g v xs → is_some (if b then Some p.pid else first_ready g v xs) ≡ (b || some_ready g v xs)
+    by true h = refl
+    by false h = h
+ready_some g v (M m ∷ xs) = ready_some g v xs
 
 halted_cons : (g : Program) (v : Shown) (x : Item) (xs : List Item) (o : Outcome) → first_halted g v (x ∷ xs) o ≡ halted_item g v (Some x) (first_halted g v xs o)
 halted_cons g v (P p) xs o = refl

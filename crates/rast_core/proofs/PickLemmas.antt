@@ -50,7 +50,7 @@ picks_go_on g plan picks old new es done pid e r h t q =
     }
 
 pub picks_end : (g : Program) (plan : Plan) (picks : List Pid) (v : Shown) (es : List Event) (done : ℕ) → IsReady (run_code g plan) → IsPartReplay g plan picks v es done → length picks ≤ done → Replayed g plan picks v es
-picks_end g plan picks v es done ready r h = record { state = r.state; replayed = r.replayed; plan_is = r.plan_is; picks_are = r.picks_are ∙ take_all done picks h; sound = plan_sound g plan v es r.state ready r.plan_is r.replayed; potential = r.potential }
+picks_end g plan picks v es done ready r h = record { state = r.state; replayed = r.replayed; plan_is = r.plan_is; picks_are = r.picks_are ∙ take_all done picks h; room = omega (arith, r.room, h); sound = plan_sound g plan v es r.state ready r.plan_is r.replayed; potential = r.potential }
 
 pub picks_going : (g : Program) (plan : Plan) (picks : List Pid) (v : Shown) (es : List Event) (done : ℕ) → IsReady (run_code g plan) → IsPartReplay g plan picks v es done → IsGoing g v
 picks_going g plan picks v es done ready r = replay_going g plan v es r.state ready r.plan_is r.replayed

@@ -77,11 +77,11 @@ plan_finishes g plan v es st budget ready e r h = subst (λ (p : Plan). IsFinish
 
 pub run_quiet : (g : Program) (plan : Plan) (budget : ℕ) (old new : Shown) (es : List Event) (done : ℕ) → IsReady (run_code g plan) → IsPartRun g plan budget old es done → IsTurn g old None new → IsFullRun g plan budget new es
 run_quiet g plan budget old new es done ready r t =
-    subst (λ (v : Shown). IsFullRun g plan budget v es) (sym t.0) (record { state = r.state; replayed = r.replayed; plan_is = r.plan_is; sound = plan_sound g plan old es r.state ready r.plan_is r.replayed; finished = plan_finishes g plan old es r.state budget ready r.plan_is r.replayed; few = omega (arith, r.count, r.room); potential = r.potential; decided = quiet_ends g old (length es) budget (some_ready g old old.items) t.1 })
+    subst (λ (v : Shown). IsFullRun g plan budget v es) (sym t.0) (record { state = r.state; replayed = r.replayed; plan_is = r.plan_is; sound = plan_sound g plan old es r.state ready r.plan_is r.replayed; finished = plan_finishes g plan old es r.state budget ready r.plan_is r.replayed; few = omega (arith, r.count, r.room); room = omega (arith, r.count, r.room); potential = r.potential; decided = quiet_ends g old (length es) budget (some_ready g old old.items) t.1 })
 
 pub run_used : (g : Program) (plan : Plan) (budget : ℕ) (v : Shown) (es : List Event) (done : ℕ) → IsReady (run_code g plan) → IsPartRun g plan budget v es done → budget ≤ done → IsFullRun g plan budget v es
 run_used g plan budget v es done ready r h =
-    record { state = r.state; replayed = r.replayed; plan_is = r.plan_is; sound = plan_sound g plan v es r.state ready r.plan_is r.replayed; finished = plan_finishes g plan v es r.state budget ready r.plan_is r.replayed; few = omega (arith, r.count, r.room); potential = r.potential; decided = used_ends g v (some_ready g v v.items) (length es == budget) (eq-eqb (length es) budget (omega (arith, r.count, r.room, h))) }
+    record { state = r.state; replayed = r.replayed; plan_is = r.plan_is; sound = plan_sound g plan v es r.state ready r.plan_is r.replayed; finished = plan_finishes g plan v es r.state budget ready r.plan_is r.replayed; few = omega (arith, r.count, r.room); room = omega (arith, r.count, r.room); potential = r.potential; decided = used_ends g v (some_ready g v v.items) (length es == budget) (eq-eqb (length es) budget (omega (arith, r.count, r.room, h))) }
 
 -- ---- one turn
 

@@ -1,5 +1,5 @@
 -- What is answered of the item at a place.
-use Rattle.std.specs.Prelude.{◌≡◌, ℕ, Bool, false, Option, Some, None}
+use Rattle.std.specs.Prelude.{◌≡◌, ℕ, Option, Some, None, if◌then◌else◌}
 use Rattle.rast_terms.specs.declared.program.Program.{Program}
 use Rattle.rast_core.specs.Words.{Pid, Item, P, M}
 use Rattle.rast_core.specs.Shown.{Shown, next_of, is_ready, halt_of}
@@ -19,10 +19,10 @@ abbrev pub or_halted : Option (Pid × ℕ) → Outcome → Outcome
 or_halted None o = o
 or_halted (Some r) o = IndexLimit r.0 r.1
 
--- whether it is a process that has an event
-abbrev pub ready_item : Program → Shown → Option Item → Bool
-ready_item g v (Some (P p)) = is_ready (next_of g v p.pid)
-ready_item g v item = false
+-- the process, where it is one that has an event
+abbrev pub ready_item : Program → Shown → Option Item → Option Pid
+ready_item g v (Some (P p)) = if is_ready (next_of g v p.pid) then Some p.pid else None
+ready_item g v item = None
 
 -- the outcome where it is a process that is halted; else the one that is given
 abbrev pub halted_item : Program → Shown → Option Item → Outcome → Outcome

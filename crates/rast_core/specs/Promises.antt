@@ -97,6 +97,8 @@ pub record IsFullRun (g : Program) (plan : Plan) (budget : ℕ) (v : Shown) (es 
   pub replayed : IsReplay g v es state
   pub plan_is : v.plan ≡ plan
   pub few : length es ≤ budget
+  -- with room for the rest of the budget
+  pub room : v.spare + length es ≡ budget
   pub potential : work es + held v.items < 2 ^ 32
   pub sound : IsSound (run_code g plan) es state
   pub decided : outcome g v (length es) budget ≡ Running → ⊥
@@ -108,6 +110,8 @@ pub record Replayed (g : Program) (plan : Plan) (picks : List Pid) (v : Shown) (
   pub replayed : IsReplay g v es state
   pub plan_is : v.plan ≡ plan
   pub picks_are : map pid_of es ≡ picks
+  -- with room for no event more
+  pub room : v.spare ≡ 0
   pub potential : work es + held v.items < 2 ^ 32
   pub sound : IsSound (run_code g plan) es state
 

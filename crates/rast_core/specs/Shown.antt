@@ -1,5 +1,5 @@
 -- A configuration as contracts see it, the runs of which it is the replay, and how a run of it came to its end.
-use Rattle.std.specs.Prelude.{◌≡◌, ℕ, Bool, true, false, ◌||◌, ◌==◌, List, [], ◌∷◌, map, length, if◌then◌else◌}
+use Rattle.std.specs.Prelude.{◌≡◌, ℕ, Bool, true, false, ◌||◌, ◌==◌, List, [], ◌∷◌, map, length, if◌then◌else◌, Option, Some, None}
 use Rattle.rast_terms.specs.declared.program.Program.{Program}
 use Rattle.rast_rules.specs.declared.judgement.Plan.{Plan}
 use Rattle.rast_core.specs.Words.{Pid, Item, P, M, Event}
@@ -47,6 +47,12 @@ abbrev pub some_ready : Program → Shown → List Item → Bool
 some_ready g v [] = false
 some_ready g v (P p ∷ is) = is_ready (next_of g v p.pid) || some_ready g v is
 some_ready g v (M m ∷ is) = some_ready g v is
+
+-- the first process of these items that has an event
+abbrev pub first_ready : Program → Shown → List Item → Option Pid
+first_ready g v [] = None
+first_ready g v (P p ∷ is) = if is_ready (next_of g v p.pid) then Some p.pid else first_ready g v is
+first_ready g v (M m ∷ is) = first_ready g v is
 
 abbrev pub halt_of : Pid → Does → Outcome → Outcome
 halt_of pid (Halted v) o = IndexLimit pid v

@@ -1,7 +1,7 @@
 // How far a run has come.
 ghost use Rattle.std.specs.Prelude.{◌≡◌, ◌<◌, length, is_some, slice_get, IfSome, IsTrue};
 ghost use Rattle.rast_core.specs.declared.answer.Outcome.{Outcome};
-ghost use Rattle.rast_core.specs.Shown.{outcome, some_ready, first_halted, is_ready, next_of};
+ghost use Rattle.rast_core.specs.Shown.{outcome, some_ready, first_ready, first_halted, is_ready, next_of};
 ghost use Rattle.rast_core.specs.Looks.{or_halted, ready_item, halted_item};
 ghost use Rattle.rast_core.specs.Promises.{IsGoing, Finishes};
 
@@ -41,6 +41,7 @@ impl Config {
     /// The first process in the list that has an event. It takes no memory.
     pub fn first_ready(&self, program: &Program) -> Option<Pid>
         requires { IsGoing program.now self.now }
+        ensures first { result ≡ first_ready program.now self.now self.now.items }
         ensures some { is_some result ≡ some_ready program.now self.now self.now.items }
         ensures ready { IfSome result (λ pid. IsTrue (is_ready (next_of program.now self.now pid))) }
     {
@@ -56,7 +57,7 @@ impl Config {
     fn ready_at(&self, program: &Program, place: usize) -> Option<Pid>
         requires going { IsGoing program.now self.now }
         requires place { place < length self.now.items }
-        ensures some { is_some result ≡ ready_item program.now self.now (slice_get self.now.items place) }
+        ensures is { result ≡ ready_item program.now self.now (slice_get self.now.items place) }
         ensures ready { IfSome result (λ pid. IsTrue (is_ready (next_of program.now self.now pid))) }
     {
         match self.next_at(program, place) {

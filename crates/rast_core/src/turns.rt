@@ -13,7 +13,7 @@ use rast_terms::Program;
 use std::alloc::{AllocError, Global};
 
 /// Runs a program from its main on one thread, until no process has an event or so many events are done;
-/// the configuration then, and the events.
+/// the configuration then, with room for the rest of them, and the events.
 pub fn run(
     alloc: Global,
     program: &Program,

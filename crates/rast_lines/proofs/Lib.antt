@@ -1,0 +1,4 @@
+pub mod Paths
+pub mod Fresh
+pub mod Scoping
+pub mod Finding

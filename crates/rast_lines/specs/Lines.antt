@@ -1,5 +1,5 @@
 -- The lines of refusals.
-use Rattle.std.specs.Prelude.{ℕ, zero, suc, ◌+◌, List, [], ◌∷◌, ◌++◌, map, take, codes, Option, Some, None, slice_get}
+use Rattle.std.specs.Prelude.{ℕ, zero, suc, List, [], ◌∷◌, ◌++◌, map, take, codes, Option, Some, None, slice_get}
 use Rattle.std.specs.Fmt.{decimal}
 use Rattle.rast_terms.specs.declared.program.Program.{Program}
 use Rattle.rast_terms.specs.declared.node.Node.{Node}
@@ -19,6 +19,7 @@ use Rattle.rast_check.specs.declared.answer.CheckErr.TheVariants as refusal
 use Rattle.rast_terms.specs.Texts.{Text, name_text, decl_text, def_text}
 use Rattle.rast_lines.specs.Naming.{Names, names_at, or_none}
 use Rattle.rast_lines.specs.Places.{decl_of}
+use Rattle.rast_lines.specs.Scopes.{refused_in_decl, refused_in_def}
 
 -- ---- values of variables
 
@@ -133,12 +134,12 @@ node_text g n = decl_text g (decl_of g n) ++ (codes " node " ++ (decimal n ++ (c
 abbrev pub premise_text : ℕ → Text
 premise_text k = codes " premise " ++ decimal k
 
--- the names of a definition's parameters and quantifiers
-abbrev pub def_names : Program → ℕ → List Text
-def_names g k = map (name_text g) (or_none (slice_get g.said.types k))
+-- the names of the variables in scope at a refused rule of a definition, or of a declaration
+abbrev pub def_names : Program → ℕ → (rule vars : ℕ) → List Text
+def_names g k rule vars = map (name_text g) (refused_in_def g.types.defs (or_none (slice_get g.said.types k)) (slice_get g.types.defs k) rule vars)
 
-abbrev pub decl_names : Program → ℕ → List Text
-decl_names g k = map (name_text g) (or_none (slice_get g.said.decls k))
+abbrev pub decl_names : Program → ℕ → (rule vars : ℕ) → List Text
+decl_names g k rule vars = map (name_text g) (refused_in_decl g.types.defs (or_none (slice_get g.said.decls k)) (slice_get g.decls k) rule vars)
 
 abbrev pub rule_text : ℕ → Text
 rule_text k = codes " rule " ++ decimal k
@@ -148,12 +149,12 @@ valued names vars None = []
 valued names vars (Some values) = with_values names vars values
 
 abbrev pub type_line : Program → TypeErr → Text
-type_line g (type.Invalid d rule vars values) = codes "refused: type " ++ (def_text g d ++ (rule_text rule ++ (valued (def_names g d) vars values ++ codes "\n")))
+type_line g (type.Invalid d rule vars values) = codes "refused: type " ++ (def_text g d ++ (rule_text rule ++ (valued (def_names g d rule vars) vars values ++ codes "\n")))
 type_line g (type.Bound d s) = codes "bound: search in type " ++ (def_text g d ++ codes "\n")
 type_line g type.Memory = []
 
 abbrev pub decl_line : Program → ℕ → TypeErr → Text
-decl_line g k (type.Invalid d rule vars values) = codes "refused: decl " ++ (decl_text g k ++ (rule_text rule ++ (valued (decl_names g k) vars values ++ codes "\n")))
+decl_line g k (type.Invalid d rule vars values) = codes "refused: decl " ++ (decl_text g k ++ (rule_text rule ++ (valued (decl_names g k rule vars) vars values ++ codes "\n")))
 decl_line g k (type.Bound d s) = codes "bound: search in decl " ++ (decl_text g k ++ codes "\n")
 decl_line g k type.Memory = []
 

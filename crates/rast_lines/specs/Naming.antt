@@ -1,6 +1,6 @@
 -- The names that are printed for the channels and the index variables at a node.
 use Rattle.std.specs.Prelude.{ℕ, ◌+◌, Bool, if◌then◌else◌, List, [], ◌∷◌, ◌++◌, map, take, Option, Some, None, slice_get}
-use Rattle.std.specs.List.{list_any}
+use Rattle.std.specs.List.{list_any, IsDistinct}
 use Rattle.std.specs.Str.{bytes_eq}
 use Rattle.std.specs.Fmt.{decimal}
 use Rattle.rast_terms.specs.declared.program.Program.{Program}
@@ -39,6 +39,11 @@ with_new taken name = taken ++ new_name taken name ∷ []
 abbrev pub params_of : Option Decl → ℕ
 params_of None = 0
 params_of (Some d) = d.params
+
+-- no two channels are printed alike, and no two index variables
+pub record AreApart (s : Names) : Type 0 where
+  pub channels : IsDistinct bytes_eq s.channels
+  pub vars : IsDistinct bytes_eq s.vars
 
 -- at a declaration's body: the names that the declaration gives
 abbrev pub body_names : Program → ℕ → Names

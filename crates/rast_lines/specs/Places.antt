@@ -1,10 +1,11 @@
 -- Where a node stands: its declaration, and the nodes above it.
-use Rattle.std.specs.Prelude.{ℕ, zero, suc, ◌+◌, ◌==◌, Bool, false, if◌then◌else◌, List, [], ◌∷◌, reverse, Option, None, Some, slice_get}
+use Rattle.std.specs.Prelude.{◌≡◌, ℕ, zero, suc, ◌+◌, ◌==◌, Bool, false, if◌then◌else◌, List, [], ◌∷◌, reverse, Option, None, Some, slice_get}
 use Rattle.std.specs.List.{list_any}
 use Rattle.rast_terms.specs.Nodes.{kids}
 use Rattle.rast_terms.specs.declared.program.Decl.{Decl}
 use Rattle.rast_terms.specs.declared.program.Program.{Program}
 use Rattle.rast_terms.specs.declared.node.Node.{Node}
+use Rattle.rast_rules.specs.Plan.{IsKid}
 
 -- whether a node is a child of one
 abbrev pub is_child : ℕ → Node → Bool
@@ -36,3 +37,8 @@ decl_from k (d ∷ ds) n = if d.body == n then k else decl_from (k + 1) ds n
 -- the declaration in which a node stands
 abbrev pub decl_of : Program → ℕ → ℕ
 decl_of g n = decl_from 0 g.decls (first_or n (nodes_above g n))
+
+-- The way down from node m to node n has these nodes: none where m is n; else m first, and then those on the way from a child of m.
+abbrev pub IsPath : Program → ℕ → List ℕ → ℕ → Type 0
+IsPath g m [] n = m ≡ n
+IsPath g m (p ∷ ps) n = (p ≡ m) × (i : ℕ) × (c : ℕ) × IsKid g m i c × IsPath g c ps n

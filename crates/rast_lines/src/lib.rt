@@ -5,6 +5,7 @@ mod evidence;
 mod names;
 mod place;
 mod refusal;
+mod scopes;
 mod valuation;
 mod write;
 

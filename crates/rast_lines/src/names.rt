@@ -1,10 +1,15 @@
 // The names that are printed at a node.
-ghost use Rattle.std.specs.Prelude.{◌≡◌, map, IfOk, OnOk, slice_get};
+ghost use Rattle.std.specs.Prelude.{◌≡◌, ℕ, List, false, map, IfOk, OnOk, slice_get};
+ghost use Rattle.std.specs.List.{IsDistinct};
+ghost use Rattle.std.specs.Str.{bytes_eq};
 ghost use Rattle.rast_lines.specs.Lines.{def_names, decl_names};
 ghost use Rattle.rast_terms.specs.Texts.{name_text};
-ghost use Rattle.rast_lines.specs.Naming.{or_none, numbered_name, is_taken, new_name, with_new, body_names, names_below, names_after, names_at};
+ghost use Rattle.rast_lines.specs.Naming.{or_none, numbered_name, is_taken, new_name, with_new, body_names, names_below, names_after, names_at, AreApart};
+ghost use Rattle.rast_lines.specs.Places as places;
+ghost use Rattle.rast_rules.specs.Plan.{IsForest, IsBody};
 
 use crate::place::{decl_of, nodes_above};
+use crate::scopes::{Sought, refused_names};
 use rast_terms::{Node, Program};
 use sqlite_items::Items;
 use std::alloc::{AllocError, Global};
@@ -73,7 +78,8 @@ fn is_taken(taken: &[Printed], name: &Printed) -> bool
 
 // The name where it is free, and else with the least number from 1 on that makes it free.
 fn new_name(alloc: Global, taken: &[Printed], name: Printed) -> Result<Printed, AllocError>
-    ensures { IfOk result (λ p. p ≡ new_name taken.now name) }
+    ensures value { IfOk result (λ p. p ≡ new_name taken.now name) }
+    ensures free { IfOk result (λ p. is_taken taken.now p ≡ false) }
 {
     if !is_taken(taken, &name) {
         return Ok(name);
@@ -94,7 +100,8 @@ fn add(
     program: &Program,
     name: u32,
 ) -> Result<(), AllocError>
-    ensures { OnOk result (names.new ≡ with_new names.old (name_text program.now name)) }
+    ensures value { OnOk result (names.new ≡ with_new names.old (name_text program.now name)) }
+    ensures apart { OnOk result (IsDistinct bytes_eq names.old → IsDistinct bytes_eq names.new) }
 {
     let own = Printed::of(alloc, program, name)?;
     let printed = new_name(alloc, names.as_slice(), own)?;
@@ -149,7 +156,8 @@ fn names_below(
     names: &mut Names,
     node: u32,
 ) -> Result<(), AllocError>
-    ensures { OnOk result (names.new ≡ names_below program.now names.old (slice_get program.now.nodes node)) }
+    ensures value { OnOk result (names.new ≡ names_below program.now names.old (slice_get program.now.nodes node)) }
+    ensures apart { OnOk result (AreApart names.old → AreApart names.new) }
 {
     match program.nodes.get(node as usize) {
         Some(Node::Recv { name, .. }) => add(alloc, &mut names.channels, program, *name),
@@ -164,8 +172,14 @@ fn names_below(
 /// A declaration's channels and parameters have the names that it gives. What a node binds has its own name where no
 /// channel, or no index variable, in scope there is printed with that name; else its own name, `_` and the least number
 /// from 1 for which this isn't so.
+///
+/// Where each node has one place, the declaration is the one from whose body a way leads down to the node, and what binds
+/// names are the nodes on that way. Where the names that the declaration gives are apart, no two channels and no two index
+/// variables are printed alike.
 pub fn names_at(alloc: Global, program: &Program, node: u32) -> Result<Names, AllocError>
-    ensures { IfOk result (λ names. names ≡ names_at program.now node) }
+    ensures value { IfOk result (λ names. names ≡ names_at program.now node) }
+    ensures placed { IfOk result (λ names. (k m : ℕ) (path : List ℕ) → IsForest program.now → IsBody program.now k m → places.IsPath program.now m path node → (places.decl_of program.now node ≡ k) × (names ≡ names_after program.now (body_names program.now k) path)) }
+    ensures apart { IfOk result (λ names. AreApart (body_names program.now (places.decl_of program.now node)) → AreApart names) }
 {
     let above = nodes_above(alloc, program, node)?;
     let decl = decl_of(program, node, above.as_slice());
@@ -181,7 +195,8 @@ fn names_after(
     names: &mut Names,
     path: &[u32],
 ) -> Result<(), AllocError>
-    ensures { OnOk result (names.new ≡ names_after program.now names.old path.now) }
+    ensures value { OnOk result (names.new ≡ names_after program.now names.old path.now) }
+    ensures apart { OnOk result (AreApart names.old → AreApart names.new) }
 {
     for node in path {
         names_below(alloc, program, names, *node)?;
@@ -189,32 +204,43 @@ fn names_after(
     Ok(())
 }
 
-/// The names of a type definition's parameters and quantifiers.
+/// The names of the variables in scope at a refused rule of a type definition.
 pub(crate) fn def_names(
     alloc: Global,
     program: &Program,
     def: u32,
+    sought: &Sought,
 ) -> Result<Items<Printed>, AllocError>
-    ensures { IfOk result (λ ns. ns ≡ def_names program.now def) }
+    ensures { IfOk result (λ ns. ns ≡ def_names program.now def sought.now.rule sought.now.vars) }
 {
-    named(
-        alloc,
-        program,
-        listed(program.said.types.as_slice(), def as usize),
-    )
+    let said = listed(program.said.types.as_slice(), def as usize);
+    let numbers = match program.types.defs.get(def as usize) {
+        Some(def) => refused_names(alloc, said, def.params, &[], &def.body, sought)?,
+        None => Items::new(alloc),
+    };
+    named(alloc, program, numbers.as_slice())
 }
 
-/// The names of a declaration's parameters and of its types' quantifiers.
+/// The names of the variables in scope at a refused rule of a declaration.
 pub(crate) fn decl_names(
     alloc: Global,
     program: &Program,
     decl: u32,
+    sought: &Sought,
 ) -> Result<Items<Printed>, AllocError>
-    ensures { IfOk result (λ ns. ns ≡ decl_names program.now decl) }
+    ensures { IfOk result (λ ns. ns ≡ decl_names program.now decl sought.now.rule sought.now.vars) }
 {
-    named(
-        alloc,
-        program,
-        listed(program.said.decls.as_slice(), decl as usize),
-    )
+    let said = listed(program.said.decls.as_slice(), decl as usize);
+    let numbers = match program.decls.get(decl as usize) {
+        Some(decl) => refused_names(
+            alloc,
+            said,
+            decl.params,
+            decl.uses.as_slice(),
+            &decl.gives,
+            sought,
+        )?,
+        None => Items::new(alloc),
+    };
+    named(alloc, program, numbers.as_slice())
 }

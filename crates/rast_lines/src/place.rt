@@ -1,7 +1,8 @@
 // Where a node stands.
-ghost use Rattle.std.specs.Prelude.{◌≡◌, ◌==◌, IfOk, map, reverse, slice_get};
+ghost use Rattle.std.specs.Prelude.{◌≡◌, ◌==◌, ℕ, IfOk, List, map, reverse, slice_get};
 ghost use Rattle.std.specs.List.{list_any};
 ghost use Rattle.rast_lines.specs.Places as places;
+ghost use Rattle.rast_rules.specs.Plan.{IsForest, IsBody};
 
 use rast_terms::{Decl, Node, Program};
 use sqlite_items::Items;
@@ -40,9 +41,13 @@ fn reversed(alloc: Global, numbers: Items<u32>) -> Result<Items<u32>, AllocError
 }
 
 /// The number of the declaration in which a node stands; `above` has the nodes above it.
+///
+/// Where each node has one place, it is the declaration from whose body a way leads down to the node, and the nodes above
+/// are those on that way.
 pub(crate) fn decl_of(program: &Program, node: u32, above: &[u32]) -> usize
     requires { above.now ≡ places.nodes_above program.now node }
-    ensures { result ≡ places.decl_of program.now node }
+    ensures value { result ≡ places.decl_of program.now node }
+    ensures placed { (k m : ℕ) (path : List ℕ) → IsForest program.now → IsBody program.now k m → places.IsPath program.now m path node → (result ≡ k) × (above.now ≡ path) }
 {
     let body = match above.first() {
         Some(body) => *body,

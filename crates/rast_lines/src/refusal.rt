@@ -6,6 +6,7 @@ ghost use Rattle.rast_lines.specs.Lines.{line, type_line, decl_line, equation_li
 use crate::evidence::{put_evidence, put_same};
 use crate::names::{Printed, decl_names, def_names, names_at};
 use crate::place::{decl_of, nodes_above};
+use crate::scopes::Sought;
 use crate::valuation::put_values;
 use crate::write::{put, put_number};
 use rast_check::CheckErr;
@@ -105,7 +106,11 @@ fn type_line(alloc: Global, program: &Program, why: &TypeErr) -> Result<Vec<u8>,
             vars,
             values,
         } => {
-            let names = def_names(alloc, program, *def)?;
+            let sought = Sought {
+                rule: *rule,
+                vars: *vars,
+            };
+            let names = def_names(alloc, program, *def, &sought)?;
             put(&mut text, b"refused: type ")?;
             put_def(&mut text, program, *def)?;
             put_rule_number(alloc, &mut text, *rule)?;
@@ -138,7 +143,11 @@ fn decl_line(
             values,
             ..
         } => {
-            let names = decl_names(alloc, program, decl)?;
+            let sought = Sought {
+                rule: *rule,
+                vars: *vars,
+            };
+            let names = decl_names(alloc, program, decl, &sought)?;
             put(&mut text, b"refused: decl ")?;
             put_decl(&mut text, program, decl as usize)?;
             put_rule_number(alloc, &mut text, *rule)?;

@@ -21,12 +21,12 @@ module _ (known : Known) (item : Text) (p : Place) (n : ℕ) where
   case_at x b bs = ap (λ e. end_of known item e p n) (sym (ending.rolls-Case x b bs))
       ∙ ap (λ f. f p n) (fold-roll-End Nodes (Text × Nodes) Nodes (end_step known item) branch_step (proc_step known item) (Case x b bs))
 
-  module _ (w : End) (x : Text) (b : Branch) (bs more : List Branch) (c k : ℕ) (is : w ≡ ending.Case x b bs) (same : more ≡ bs) (here : channel_of p.channels x ≡ Ok c) (one : k ≡ n + 1) where
-    case_on : end_of known item w p n ≡ (branches_of known.names [] (map (branch_of known item) (b ∷ more)) p k >>= λ r. Ok (node.Case c r.0 ∷ r.1))
-    case_on = ap (λ z. end_of known item z p n) is ∙ case_at x b bs ∙ rw (here, same, one) refl
-
-    pub case_err : (g : NameErr) → Fails (branches_of known.names [] (map (branch_of known item) (b ∷ more)) p k) g → Fails (end_of known item w p n) g
-    case_err g h = made_fails _ (branches_of known.names [] (map (branch_of known item) (b ∷ more)) p k) (λ z. node.Case c z.0 ∷ z.1) g case_on h
+  pub case_gives : (w : End) (x : Text) (b : Branch) (bs more : List Branch) (r : Answer (List Node)) → w ≡ ending.Case x b bs → more ≡ bs →
+      Gives (channel_of p.channels x >>= λ c. branches_of known.names [] (map (branch_of known item) (b ∷ more)) p (n + 1) >>= λ s. Ok (node.Case c s.0 ∷ s.1)) r → Gives (end_of known item w p n) r
+  case_gives w x b bs more r is same h =
+      let f : end_of known item w p n ≡ (channel_of p.channels x >>= λ c. branches_of known.names [] (map (branch_of known item) (b ∷ more)) p (n + 1) >>= λ s. Ok (node.Case c s.0 ∷ s.1)) =
+      ap (λ z. end_of known item z p n) is ∙ case_at x b bs ∙ rw same refl in
+      subst (λ a. Gives a r) (sym f) h
 
   -- a fault of the end is that of the steps and the end
   pub term_stops : (ss : List Step) (e : End) (ns : List Node) (q : Place) (k l : ℕ) (g : NameErr) → steps_of known item ss p n ≡ Ok (ns, q) → k ≡ n + l → l ≡ length ss → Fails (end_of known item e q k) g → Fails (term_nodes known item ss e p n) g

@@ -1,4 +1,4 @@
--- How much is left of a term: five times its nodes, and a little more where a part is looked at by more than one function.
+-- How much is left of a term: six times its nodes, and a little more where a part is looked at by more than one function.
 use Rattle.std.proofs.Common.{◌≡◌, ℕ, zero, suc, ◌+◌, ◌*◌, ◌<◌, ◌≤◌, List, [], ◌∷◌, map, length, get_or, sym, ap, ◌∙◌, subst, arith}
 use Rattle.std.specs.Prelude.{sum}
 use Rattle.std.proofs.lemmas.List.Sums.{sum-map, sum_by-cons}
@@ -12,19 +12,22 @@ use Rattle.rast_resolve.specs.Scopes.{Text}
 use Rattle.rast_resolve.specs.Names.{size_of, size_of_end, size_of_branch, end_size, branch_size, proc_size}
 
 unfoldable pub end_weight : End → ℕ
-end_weight e = 5 * size_of_end e
+end_weight e = 6 * size_of_end e
 
 unfoldable pub term_weight : End → ℕ
-term_weight e = 5 * size_of_end e + 1
+term_weight e = 6 * size_of_end e + 1
 
 unfoldable pub proc_weight : Proc → ℕ
-proc_weight t = 5 * size_of t + 2
+proc_weight t = 6 * size_of t + 2
 
 unfoldable pub branches_weight : List Branch → ℕ
-branches_weight bs = 5 * sum (map size_of_branch bs) + 3
+branches_weight bs = 6 * sum (map size_of_branch bs) + 3
 
 unfoldable pub cases_weight : Branch → List Branch → ℕ
-cases_weight b bs = 5 * (size_of_branch b + sum (map size_of_branch bs)) + 4
+cases_weight b bs = 6 * (size_of_branch b + sum (map size_of_branch bs)) + 4
+
+unfoldable pub case_weight : Branch → List Branch → ℕ
+case_weight b bs = 6 * (size_of_branch b + sum (map size_of_branch bs)) + 5
 
 proc_size_at : (t : Proc) → size_of t ≡ length t.steps + size_of_end t.end
 proc_size_at t = fold_out-Proc ℕ ℕ ℕ end_size branch_size proc_size t
@@ -36,19 +39,22 @@ case_size_at : (x : Text) (b : Branch) (bs : List Branch) → size_of_end (endin
 case_size_at x b bs = ap size_of_end (sym (ending.rolls-Case x b bs)) ∙ fold-roll-End ℕ ℕ ℕ end_size branch_size proc_size (Case x b bs)
 
 -- the arithmetic, over plain numbers
-above_end : (n l e : ℕ) → n ≡ l + e → 5 * e + 1 < 5 * n + 2
+above_end : (n l e : ℕ) → n ≡ l + e → 6 * e + 1 < 6 * n + 2
 above_end n l e h = omega (arith, h)
 
-above_cases : (e b s : ℕ) → e ≡ 1 + (b + s) → 5 * (b + s) + 4 < 5 * e
-above_cases e b s h = omega (arith, h)
+above_case : (e b s : ℕ) → e ≡ 1 + (b + s) → 6 * (b + s) + 5 < 6 * e
+above_case e b s h = omega (arith, h)
 
-above_body : (b n s : ℕ) → b ≡ n → 5 * n + 2 < 5 * (b + s) + 4
+above_cases : (n : ℕ) → 6 * n + 4 < 6 * n + 5
+above_cases n = omega arith
+
+above_body : (b n s : ℕ) → b ≡ n → 6 * n + 2 < 6 * (b + s) + 4
 above_body b n s h = omega (arith, h)
 
-above_rest : (b s : ℕ) → 5 * s + 3 < 5 * (b + s) + 4
+above_rest : (b s : ℕ) → 6 * s + 3 < 6 * (b + s) + 4
 above_rest b s = omega arith
 
-above_item : (n s : ℕ) → n ≤ s → 5 * n + 2 < 5 * s + 3
+above_item : (n s : ℕ) → n ≤ s → 6 * n + 2 < 6 * s + 3
 above_item n s h = omega (arith, h)
 
 one_of_sum : (n x s : ℕ) → n ≡ x → n ≤ x + s
@@ -57,7 +63,7 @@ one_of_sum n x s h = omega (arith, h)
 rest_of_sum : (n x s : ℕ) → n ≤ s → n ≤ x + s
 rest_of_sum n x s h = omega (arith, h)
 
-one_more : (e : ℕ) → 5 * e < 5 * e + 1
+one_more : (e : ℕ) → 6 * e < 6 * e + 1
 one_more e = omega arith
 
 pub term_below : (t : Proc) (e : End) → e ≡ t.end → term_weight e < proc_weight t
@@ -68,10 +74,14 @@ pub end_below : (e : End) → end_weight e < term_weight e
 unfolding end_weight term_weight
 end_below e = one_more (size_of_end e)
 
-pub cases_below : (e : End) (x : Text) (b : Branch) (bs more : List Branch) → e ≡ ending.Case x b bs → more ≡ bs → cases_weight b more < end_weight e
-unfolding cases_weight end_weight
-cases_below e x b bs more is same =
-    above_cases (size_of_end e) (size_of_branch b) (sum (map size_of_branch more)) (ap size_of_end is ∙ case_size_at x b bs ∙ ap (λ z. 1 + (size_of_branch b + sum (map size_of_branch z))) (sym same))
+pub case_below : (e : End) (x : Text) (b : Branch) (bs more : List Branch) → e ≡ ending.Case x b bs → more ≡ bs → case_weight b more < end_weight e
+unfolding case_weight end_weight
+case_below e x b bs more is same =
+    above_case (size_of_end e) (size_of_branch b) (sum (map size_of_branch more)) (ap size_of_end is ∙ case_size_at x b bs ∙ ap (λ z. 1 + (size_of_branch b + sum (map size_of_branch z))) (sym same))
+
+pub cases_below : (b : Branch) (bs : List Branch) → cases_weight b bs < case_weight b bs
+unfolding cases_weight case_weight
+cases_below b bs = above_cases (size_of_branch b + sum (map size_of_branch bs))
 
 pub first_below : (b : Branch) (bs : List Branch) → proc_weight b.body < cases_weight b bs
 unfolding proc_weight cases_weight

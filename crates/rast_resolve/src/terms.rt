@@ -1,7 +1,8 @@
 // Process terms.
-ghost use Rattle.std.specs.Prelude.{◌≡◌, ◌+◌, ◌∷◌, [], map, IfOk, OnOk};
-ghost use Rattle.rast_resolve.specs.Answers.{Gives, Leaves};
-ghost use Rattle.rast_resolve.specs.Bodies.{steps_of, nodes_of, term_nodes, end_of, branch_of, branches_of};
+ghost use Rattle.std.specs.Prelude.{◌≡◌, ◌+◌, ◌∷◌, [], map, Ok, IfOk, OnOk};
+ghost use Rattle.rast_terms.specs.declared.node.Node.TheVariants as node;
+ghost use Rattle.rast_resolve.specs.Answers.{Gives, Leaves, ◌>>=◌ as ◌then◌};
+ghost use Rattle.rast_resolve.specs.Bodies.{channel_of, refs_of, callee_of, steps_of, nodes_of, term_nodes, end_of, branch_of, branches_of};
 
 use crate::callees::{called, references};
 use crate::fault::{NameErr, twice};
@@ -9,7 +10,7 @@ use crate::index::Index;
 use crate::known::{Known, narrow, plus};
 use crate::place::Place;
 use crate::steps::step;
-use rast_ast::{Branch, End, Name, Proc, Step};
+use rast_ast::{Branch, By, End, Lin as Written, Name, Proc, Step};
 use rast_terms::Node;
 use sqlite_items::Items;
 use std::alloc::{AllocError, Global};
@@ -48,6 +49,57 @@ fn steps_of(
         nodes.push(step(alloc, known, item, place, next, s)?)?;
     }
     Ok(nodes)
+}
+
+// The node that closes a channel.
+fn close_of(alloc: Global, place: &Place, channel: &Name) -> Result<Items<Node>, NameErr>
+    ensures { Gives (channel_of place.now.channels channel.now then λ c. Ok (node.Close c ∷ [])) result }
+{
+    let x = place.channel_number(alloc, channel)?;
+    Ok(alone(alloc, Node::Close { x })?)
+}
+
+// The node that forwards one channel to another.
+fn forward_of(
+    alloc: Global,
+    item: &Name,
+    place: &Place,
+    channel: &Name,
+    other: &Name,
+    by: &Option<By>,
+) -> Result<Items<Node>, NameErr>
+    ensures { Gives (channel_of place.now.channels channel.now then λ c. channel_of place.now.channels other.now then λ d. refs_of item.now place.now.vars by.now then λ rs. Ok (node.Forward c d rs ∷ [])) result }
+{
+    let x = place.channel_number(alloc, channel)?;
+    let y = place.channel_number(alloc, other)?;
+    let refs = references(alloc, item, &place.vars, by)?;
+    Ok(alone(alloc, Node::Forward { x, y, refs })?)
+}
+
+// The node that calls a process.
+fn call_of(
+    alloc: Global,
+    known: &Known,
+    item: &Name,
+    place: &Place,
+    channel: &Name,
+    name: &Name,
+    args: &[Written],
+    used: &[Name],
+    by: &Option<By>,
+) -> Result<Items<Node>, NameErr>
+    ensures { Gives (channel_of place.now.channels channel.now then λ c. callee_of known.now item.now place.now name.now args.now used.now by.now then λ k. Ok (node.Call c k.decl k.args k.ys k.refs ∷ [])) result }
+{
+    let x = place.channel_number(alloc, channel)?;
+    let f = called(alloc, known, item, place, name, args, used, by)?;
+    let call = Node::Call {
+        x,
+        decl: f.decl,
+        args: f.args,
+        ys: f.ys,
+        refs: f.refs,
+    };
+    Ok(alone(alloc, call)?)
 }
 
 // The nodes of a term in preorder, the first of which has the number `at`, where this is in scope.
@@ -112,15 +164,9 @@ fn end(
     ensures kept { OnOk result (place.new ≡ place.old) }
 {
     match written {
-        End::Close(channel) => {
-            let x = place.channel_number(alloc, channel)?;
-            Ok(alone(alloc, Node::Close { x })?)
-        }
+        End::Close(channel) => close_of(alloc, place, channel),
         End::Forward { channel, other, by } => {
-            let x = place.channel_number(alloc, channel)?;
-            let y = place.channel_number(alloc, other)?;
-            let refs = references(alloc, item, &place.vars, by)?;
-            Ok(alone(alloc, Node::Forward { x, y, refs })?)
+            forward_of(alloc, item, place, channel, other, by)
         }
         End::Call {
             channel,
@@ -128,45 +174,56 @@ fn end(
             args,
             used,
             by,
-        } => {
-            let x = place.channel_number(alloc, channel)?;
-            let f = called(
-                alloc,
-                known,
-                item,
-                place,
-                name,
-                args.as_slice(),
-                used.as_slice(),
-                by,
-            )?;
-            let call = Node::Call {
-                x,
-                decl: f.decl,
-                args: f.args,
-                ys: f.ys,
-                refs: f.refs,
-            };
-            Ok(alone(alloc, call)?)
-        }
+        } => call_of(
+            alloc,
+            known,
+            item,
+            place,
+            channel,
+            name,
+            args.as_slice(),
+            used.as_slice(),
+            by,
+        ),
         End::Case {
             channel,
             first,
             rest,
-        } => {
-            let x = place.channel_number(alloc, channel)?;
-            let below = after(at, 1)?;
-            match cases(alloc, known, item, place, below, first, rest.as_slice()) {
-                Ok((branches, more)) => {
-                    let mut nodes = alone(alloc, Node::Case { x, branches })?;
-                    nodes.append(more)?;
-                    Ok(nodes)
-                }
-                Err(e) => Err(e),
-            }
-        }
+        } => case_of(
+            alloc,
+            known,
+            item,
+            place,
+            at,
+            channel,
+            first,
+            rest.as_slice(),
+        ),
         End::Impossible => Ok(alone(alloc, Node::Impossible)?),
     }
+}
+
+// The node of a case and those of its branches, the first of which has the number `at`.
+#[cycle(term)]
+fn case_of(
+    alloc: Global,
+    known: &Known,
+    item: &Name,
+    place: &mut Place,
+    at: u32,
+    channel: &Name,
+    first: &Branch,
+    rest: &[Branch],
+) -> Result<Items<Node>, NameErr>
+    ensures gives { Gives (channel_of place.old.channels channel.now then λ c. branches_of known.now.names [] (map (branch_of known.now item.now) (first.now ∷ rest.now)) place.old (at + 1) then λ r. Ok (node.Case c r.0 ∷ r.1)) result }
+    ensures kept { OnOk result (place.new ≡ place.old) }
+{
+    let x = place.channel_number(alloc, channel)?;
+    let below = after(at, 1)?;
+    let (branches, more) = cases(alloc, known, item, place, below, first, rest)?;
+    let mut nodes = alone(alloc, Node::Case { x, branches })?;
+    nodes.append(more)?;
+    Ok(nodes)
 }
 
 // The branches of a case: the labels' numbers with the first nodes, and all nodes, the first of which has the number `at`.

@@ -1,8 +1,8 @@
 use Rattle.std.proofs.Common.{rules, arith}
 use Rattle.std.proofs.lemmas.Result.{err_from_is_err_and}
-use Rattle.rast_resolve.proofs.TermLayers.{proc_gives, case_err, term_stops}
+use Rattle.rast_resolve.proofs.TermLayers.{proc_gives, case_gives, term_stops}
 use Rattle.rast_resolve.proofs.Scoped.{place_back}
-use Rattle.rast_resolve.proofs.Weights.{term_below, end_below, cases_below, first_below, rest_below, item_below}
+use Rattle.rast_resolve.proofs.Weights.{term_below, end_below, case_below, cases_below, first_below, rest_below, item_below}
 use Rattle.rast_resolve.proofs.terms.+term.Goals as goal
 
 pub nodes_of-returns-clause-gives : goal.nodes_of-returns-clause-gives
@@ -14,10 +14,13 @@ nodes_of-term_of-requires t c = let d = c.decreases in let h = term_below c.args
 pub term_of-end-requires : goal.term_of-end-requires
 term_of-end-requires t c = let d = c.decreases in let h = end_below c.args.last.now in (omega (arith, d, h), tt)
 
-pub end-cases-requires : goal.end-cases-requires
-end-cases-requires t c =
+pub end-case_of-requires : goal.end-case_of-requires
+end-case_of-requires t c =
     let d = c.decreases in
-    let h = cases_below c.args.written.now c.in-Case.channel c.in-Case.first c.in-Case.rest c.as_slice-in-Case.result.now c.in-Case.is c.as_slice-in-Case.ensures in (omega (arith, d, h), tt)
+    let h = case_below c.args.written.now c.in-Case.channel c.in-Case.first c.in-Case.rest c.as_slice-in-Case.result.now c.in-Case.is c.as_slice-in-Case.ensures in (omega (arith, d, h), tt)
+
+pub case_of-cases-requires : goal.case_of-cases-requires
+case_of-cases-requires t c = let d = c.decreases in let h = cases_below c.args.first.now c.args.rest.now in (omega (arith, d, h), tt)
 
 pub cases-nodes_of-requires : goal.cases-nodes_of-requires
 cases-nodes_of-requires t c = let d = c.decreases in let h = first_below c.args.first.now c.args.rest.now in (omega (arith, d, h), tt)
@@ -28,10 +31,10 @@ cases-branches-requires t c = let d = c.decreases in let h = rest_below c.args.f
 pub branches-nodes_of-requires : goal.branches-nodes_of-requires
 branches-nodes_of-requires t c = let d = c.decreases in let h = item_below c.args.rest.now c.loop-branch.branch-index c.branch-item.result c.branch-item.is c.loop-branch-test.true in (omega (arith, d, h), tt)
 
-pub end-returns-in-Err-clause-gives : goal.end-returns-in-Err-clause-gives
-end-returns-in-Err-clause-gives t c =
-    case_err c.args.known.now c.args.item.now c.args.place.now c.args.at c.args.written.now c.in-Case.channel c.in-Case.first c.in-Case.rest c.as_slice-in-Case.result.now c.in_ok-x-in-Case.x c.in_ok-below-in-Case.below
-    c.in-Case.is c.as_slice-in-Case.ensures c.in_ok-x-in-Case.ensures c.in_ok-below-in-Case.ensures c.in-Err.e c.in-Err.ensures.gives
+pub end-returns-in-Case-clause-gives : goal.end-returns-in-Case-clause-gives
+end-returns-in-Case-clause-gives t c =
+    case_gives c.args.known.now c.args.item.now c.args.place.now c.args.at c.args.written.now c.in-Case.channel c.in-Case.first c.in-Case.rest c.as_slice-in-Case.result.now _
+    c.in-Case.is c.as_slice-in-Case.ensures c.case_of.ensures.gives
 
 pub term_of-returns-in_err-below-clause-gives : goal.term_of-returns-in_err-below-clause-gives
 term_of-returns-in_err-below-clause-gives t c =

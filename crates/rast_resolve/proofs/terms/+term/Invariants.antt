@@ -1,7 +1,7 @@
 use Rattle.std.proofs.Common.{◌≡◌, ◌++◌, map, drop, Ok}
 use Rattle.rast_resolve.specs.Answers.{◌>>=◌}
 use Rattle.rast_resolve.specs.Bodies.{branches_of, branch_of}
-use Rattle.rast_resolve.proofs.Weights.{end_weight, term_weight, proc_weight, branches_weight, cases_weight}
+use Rattle.rast_resolve.proofs.Weights.{end_weight, term_weight, proc_weight, branches_weight, cases_weight, case_weight}
 use Rattle.rast_resolve.proofs.terms.+term.Given as goal
 
 abbrev pub decreases-nodes_of : goal.decreases-nodes_of
@@ -12,6 +12,9 @@ decreases-term_of l = term_weight l.last.now
 
 abbrev pub decreases-end : goal.decreases-end
 decreases-end l = end_weight l.written.now
+
+abbrev pub decreases-case_of : goal.decreases-case_of
+decreases-case_of l = case_weight l.first.now l.rest.now
 
 abbrev pub decreases-cases : goal.decreases-cases
 decreases-cases l = cases_weight l.first.now l.rest.now
