@@ -16,6 +16,7 @@ pub mod Filled
 pub mod Terms
 pub mod Ground
 pub mod Lists
+pub mod Moderate
 pub mod PreparedFits
 pub mod Fits
 pub mod Courses

@@ -1,6 +1,7 @@
 pub mod Divisors
 pub mod Arithmetic
 pub mod Meaning
+pub mod Moderate
 pub mod Eliminate
 pub mod Claims
 pub mod Search

@@ -1,12 +1,15 @@
 // The search below a state without pending claims.
 ghost use Rattle.std.specs.Prelude.{◌≡◌, ◌<◌, ◌≤◌, ◌^◌, true, List, [], ◌∷◌, map, IfOk};
+ghost use Rattle.std.specs.List.{list_any};
 ghost use Rattle.rast_cooper.specs.Arithmetic.{at_most};
 ghost use Rattle.rast_cooper.specs.Course.{Explores, Advances, IsBelow, IsAtMost, continued, broken};
 ghost use Rattle.rast_cooper.specs.Eliminate.{Positive, substituted, at_point, bounds};
-ghost use Rattle.rast_cooper.specs.Search.{State, state, all_in_bounds, run, after, settled, tested, test, first_solved, point_states, bound_states};
+ghost use Rattle.rast_cooper.specs.Moderate.{is_moderate, are_moderate};
+ghost use Rattle.rast_cooper.specs.Search.{State, state, all_in_bounds, fails, run, after, settled, tested, test, first_solved, point_states, bound_states};
 
 use crate::literal::Literal;
-use crate::rewrite::{any_fails, prepare, put_all, varied};
+use crate::number::MOST_MODERATE;
+use crate::rewrite::{any_fails, are_moderate, finds_false, prepare, put_all, varied};
 use crate::solution::{first_solved, lowest};
 use crate::term::Term;
 use sqlite_items::Items;
@@ -126,6 +129,71 @@ fn replace(
     explore(alloc, literals.as_slice(), rows.as_slice(), left)
 }
 
+/// Whether no number of the literals' and rows' terms is greater than 2^59 in magnitude.
+fn both_moderate(ls: &[Literal], rows: &[Literal]) -> bool
+    ensures { result ≡ true → (are_moderate ls.now ≡ true) × (are_moderate rows.now ≡ true) }
+{
+    if are_moderate(ls) {
+        are_moderate(rows)
+    } else {
+        false
+    }
+}
+
+/// Whether it was found that with `term + more` in the place of a variable a literal without variables is false,
+/// and that no number of the new state passes 2^120, as all that it is made of are moderate.
+fn ends(ls: &[Literal], x: usize, term: &Term, more: u128, moderate: bool, last: &mut usize) -> bool
+    requires variable { x < 16 }
+    requires more { more ≤ 2 ^ 120 }
+    requires literals { all_in_bounds ls.now ≡ true }
+    ensures given { result ≡ true → moderate ≡ true }
+    ensures near { result ≡ true → more ≤ 2 ^ 59 }
+    ensures term { result ≡ true → is_moderate term.now ≡ true }
+    ensures fails { result ≡ true → list_any fails (at_point x term.now more ls.now) ≡ true }
+{
+    if !moderate {
+        return false;
+    }
+    if more > MOST_MODERATE {
+        return false;
+    }
+    if !term.is_moderate() {
+        return false;
+    }
+    finds_false(ls, x, term, more, last)
+}
+
+/// Visits the state of a test point, which is not made where it is known to end.
+#[cycle(explore)]
+fn point(
+    alloc: Global,
+    ls: &[Literal],
+    rows: &[Literal],
+    x: usize,
+    term: &Term,
+    more: u128,
+    moderate: bool,
+    last: &mut usize,
+    left: u32,
+) -> Result<Course, AllocError>
+    requires variable { x < 16 }
+    requires more { more ≤ 2 ^ 120 }
+    requires literals { all_in_bounds ls.now ≡ true }
+    requires rows { all_in_bounds rows.now ≡ true }
+    requires divisors { Positive ls.now }
+    requires moderate { moderate ≡ true → (are_moderate ls.now ≡ true) × (are_moderate rows.now ≡ true) }
+    ensures course { IfOk result (Explores left (state [] (at_point x term.now more ls.now) (at_point x term.now more rows.now) ∷ [])) }
+    ensures at_most { IfOk result (IsAtMost left) }
+{
+    if left == 0 {
+        return Ok(Course::TooMany);
+    }
+    if ends(ls, x, term, more, moderate, last) {
+        return Ok(Course::Done(left - 1));
+    }
+    replace(alloc, ls, rows, x, term, more, left)
+}
+
 /// Visits the states in which a variable has the values of its test points.
 #[cycle(explore)]
 fn test(
@@ -143,14 +211,12 @@ fn test(
     ensures at_most { IfOk result (IsAtMost left) }
 {
     match prepare(alloc, ls, rows, x)? {
-        Some(ready) => bounds(
-            alloc,
-            ready.literals.as_slice(),
-            ready.rows.as_slice(),
-            ready.period,
-            x,
-            left,
-        ),
+        Some(ready) => {
+            let literals = ready.literals.as_slice();
+            let rows = ready.rows.as_slice();
+            let moderate = both_moderate(literals, rows);
+            bounds(alloc, literals, rows, ready.period, x, moderate, left)
+        }
         None => Ok(Course::TooGreat),
     }
 }
@@ -163,6 +229,7 @@ fn bounds(
     rows: &[Literal],
     period: u128,
     x: usize,
+    moderate: bool,
     most: u32,
 ) -> Result<Course, AllocError>
     requires variable { x < 16 }
@@ -170,15 +237,20 @@ fn bounds(
     requires literals { all_in_bounds ls.now ≡ true }
     requires rows { all_in_bounds rows.now ≡ true }
     requires divisors { Positive ls.now }
+    requires moderate { moderate ≡ true → (are_moderate ls.now ≡ true) × (are_moderate rows.now ≡ true) }
     ensures course { IfOk result (Explores most (bound_states x (bounds x ls.now) period ls.now rows.now)) }
     ensures at_most { IfOk result (IsAtMost most) }
 {
     let mut left = most;
+    let mut last = 0;
     for lit in ls {
         if !lit.is_lower(x) {
             continue;
         }
-        match points(alloc, ls, rows, period, x, &lit.bound(x), left)? {
+        let bound = lit.bound(x);
+        match points(
+            alloc, ls, rows, period, x, &bound, moderate, &mut last, left,
+        )? {
             Course::Done(rest) => left = rest,
             end => return Ok(end),
         }
@@ -195,6 +267,8 @@ fn points(
     period: u128,
     x: usize,
     bound: &Term,
+    moderate: bool,
+    last: &mut usize,
     most: u32,
 ) -> Result<Course, AllocError>
     requires variable { x < 16 }
@@ -202,12 +276,13 @@ fn points(
     requires literals { all_in_bounds ls.now ≡ true }
     requires rows { all_in_bounds rows.now ≡ true }
     requires divisors { Positive ls.now }
+    requires moderate { moderate ≡ true → (are_moderate ls.now ≡ true) × (are_moderate rows.now ≡ true) }
     ensures course { IfOk result (Explores most (point_states x bound.now 0 period ls.now rows.now)) }
     ensures at_most { IfOk result (IsAtMost most) }
 {
     let mut left = most;
     for j in 0..period {
-        match replace(alloc, ls, rows, x, bound, j, left)? {
+        match point(alloc, ls, rows, x, bound, j, moderate, last, left)? {
             Course::Done(rest) => left = rest,
             end => return Ok(end),
         }

@@ -11,8 +11,6 @@ mod rewrite;
 mod search;
 mod solution;
 mod term;
-#[cfg(test)]
-mod tests;
 mod verdict;
 
 pub use decision::decide;

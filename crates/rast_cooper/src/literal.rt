@@ -35,6 +35,18 @@ pub struct Literal {
     pub term: Term,
 }
 
+/// Whether a demand is true of a number.
+fn says(sort: Sort, divisor: u128, number: i128) -> bool
+    ensures { result ≡ says sort divisor number }
+{
+    match sort {
+        Sort::AtLeast => 0 <= number,
+        Sort::Equals => number == 0,
+        Sort::Multiple => is_multiple(divisor, number),
+        Sort::NotMultiple => !is_multiple(divisor, number),
+    }
+}
+
 /// Whether `z` is a multiple of `d`.
 fn is_multiple(d: u128, z: i128) -> bool
     ensures { result ≡ divides d z }
@@ -93,13 +105,7 @@ impl Literal {
     fn says_constant(&self) -> bool
         ensures { result ≡ says self.now.sort self.now.divisor self.now.term.constant }
     {
-        let constant = self.term.constant;
-        match self.sort {
-            Sort::AtLeast => 0 <= constant,
-            Sort::Equals => constant == 0,
-            Sort::Multiple => is_multiple(self.divisor, constant),
-            Sort::NotMultiple => !is_multiple(self.divisor, constant),
-        }
+        says(self.sort, self.divisor, self.term.constant)
     }
 
     /// Whether it has no variables and is false.
@@ -125,6 +131,26 @@ impl Literal {
             divisor: self.divisor,
             term,
         })
+    }
+
+    /// Whether `t + more` in the place of a variable leaves no variable, and a demand that is false.
+    /// Only then is the new literal made: first its constant is looked at, with a sum that may wrap.
+    pub fn fails_at(&self, x: usize, t: &Term, more: u128) -> bool
+        requires variable { x < 16 }
+        requires more { more ≤ 2 ^ 120 }
+        requires bounded { in_bounds self.now ≡ true }
+        ensures { result ≡ true → fails (substituted x (shifted more t.now) self.now) ≡ true }
+    {
+        let value = t.constant.wrapping_add(more as i128);
+        let part = self.term.coefficient_of(x).wrapping_mul(value);
+        let constant = self.term.constant.wrapping_add(part);
+        if says(self.sort, self.divisor, constant) {
+            return false;
+        }
+        match self.substituted(x, t, more) {
+            Some(put) => put.fails(),
+            None => false,
+        }
     }
 
     /// This literal multiplied by `k`, with the sign of a variable's coefficient as its new coefficient.

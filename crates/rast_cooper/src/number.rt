@@ -4,9 +4,27 @@ ghost use Rattle.std.specs.List.{list_all};
 ghost use Rattle.rast_cooper.specs.Answer.{FitsSome};
 ghost use Rattle.rast_cooper.specs.Eliminate.{sign};
 ghost use Rattle.rast_cooper.specs.Arithmetic.{bounded, at_most, sums};
+ghost use Rattle.rast_cooper.specs.Moderate.{moderate};
 
 /// The greatest magnitude that a number of the search may have, 2^120.
 pub const MOST: u128 = 1329227995784915872903807060280344576;
+
+/// The greatest magnitude of a moderate number, 2^59.
+pub const MOST_MODERATE: u128 = 576460752303423488;
+
+/// Whether the number's magnitude is at most 2^59.
+pub fn is_moderate(z: i128) -> bool
+    ensures { result ≡ moderate z }
+{
+    z.unsigned_abs() <= MOST_MODERATE
+}
+
+/// Whether the magnitude of each of the numbers is at most 2^59.
+pub fn all_moderate(numbers: &[i128; 16]) -> bool
+    ensures { result ≡ list_all moderate numbers.now }
+{
+    numbers.iter().all(|number| is_moderate(*number))
+}
 
 /// Whether the number's magnitude is at most 2^120.
 fn is_bounded(z: i128) -> bool

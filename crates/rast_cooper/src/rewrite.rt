@@ -4,6 +4,7 @@ ghost use Rattle.std.specs.List.{list_any};
 ghost use Rattle.rast_cooper.specs.Answer.{FitsSome};
 ghost use Rattle.rast_cooper.specs.Arithmetic.{at_most, shifted};
 ghost use Rattle.rast_cooper.specs.Eliminate.{has, substituted, scaled, parts, without_equations, common, prepared_by, Positive};
+ghost use Rattle.rast_cooper.specs.Moderate.{are_moderate};
 ghost use Rattle.rast_cooper.specs.Search.{in_bounds, all_in_bounds, fails, varied, test, fit};
 
 use crate::divisor::{common, period};
@@ -17,6 +18,35 @@ pub fn any_fails(ls: &[Literal]) -> bool
     ensures { result ≡ list_any fails ls.now }
 {
     ls.iter().any(|lit| lit.fails())
+}
+
+/// Whether no number of a term is greater than 2^59 in magnitude.
+pub fn are_moderate(ls: &[Literal]) -> bool
+    ensures { result ≡ are_moderate ls.now }
+{
+    ls.iter().all(|lit| lit.term.is_moderate())
+}
+
+/// Whether a literal was found that has no variable and is false with `t + more` in the place of a variable.
+/// They are tried from the place `last` on, and then from the first on; `last` is then that literal's place.
+pub fn finds_false(ls: &[Literal], x: usize, t: &Term, more: u128, last: &mut usize) -> bool
+    requires variable { x < 16 }
+    requires more { more ≤ 2 ^ 120 }
+    requires bounded { all_in_bounds ls.now ≡ true }
+    ensures { result ≡ true → list_any fails (map (substituted x (shifted more t.now)) ls.now) ≡ true }
+{
+    let mut place = *last;
+    for _turn in 0..ls.len() {
+        if place >= ls.len() {
+            place = 0;
+        }
+        if ls[place].fails_at(x, t, more) {
+            *last = place;
+            return true;
+        }
+        place += 1;
+    }
+    false
 }
 
 /// The literals that have variables.

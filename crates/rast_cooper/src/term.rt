@@ -3,8 +3,9 @@ ghost use Rattle.std.specs.Prelude.{◌≡◌, ◌<◌, ◌≤◌, ◌^◌, pos,
 ghost use Rattle.rast_index.specs.Linear.{nought, is_small};
 ghost use Rattle.rast_cooper.specs.Answer.{FitsSome};
 ghost use Rattle.rast_cooper.specs.Arithmetic.{bounded, is_bounded, put, added, times, minus, less_one, shifted, exchanged, variable, coefficient};
+ghost use Rattle.rast_cooper.specs.Moderate.{is_moderate};
 
-use crate::number::{combined, sum_product};
+use crate::number::{all_moderate, combined, is_moderate, sum_product};
 use rast_index::Lin;
 use std::marker::Model;
 
@@ -59,6 +60,13 @@ impl Term {
             constant: lin.constant as i128,
             coefficient,
         }
+    }
+
+    /// Whether no number's magnitude is greater than 2^59.
+    pub fn is_moderate(&self) -> bool
+        ensures { result ≡ is_moderate self.now }
+    {
+        is_moderate(self.constant) && all_moderate(&self.coefficient)
     }
 
     /// The coefficient of a variable.

@@ -3,8 +3,6 @@
 
 mod decision;
 mod line;
-#[cfg(test)]
-mod tests;
 mod text;
 
 pub use decision::{Decision, status};

@@ -6,8 +6,9 @@ ghost use Rattle.rast_equal.specs.Sound.{AreEqualWhereGood};
 ghost use Rattle.rast_equal.specs.Walk.{IsSame, same_points, top};
 
 use crate::answer::SameErr;
-use crate::place::{Pair, Place};
+use crate::place::Place;
 use crate::references::serve;
+use crate::walk::pair;
 use rast_types::{Ctx, Equation, Ref, Ty};
 use sqlite_items::Items;
 use std::alloc::Global;
@@ -36,11 +37,9 @@ pub fn same(
     ensures holds { IfOk result (λ done. IsSame equations.now ctx.now.vars ctx.now.premises a.now b.now refs.now) }
     ensures equal { IfOk result (λ done. AreEqualWhereGood equations.now ctx.now.vars ctx.now.premises a.now b.now) }
 {
+    let place = Place::top(alloc, ctx.vars, ctx.premises.as_slice())?;
+    let both = pair(alloc, place, a, b)?;
     let mut pairs = Items::new(alloc);
-    pairs.push(Pair {
-        place: Place::top(alloc, ctx.vars, ctx.premises.as_slice())?,
-        left: a.copy(alloc)?,
-        right: b.copy(alloc)?,
-    })?;
+    pairs.push(both)?;
     serve(alloc, equations, refs, pairs)
 }

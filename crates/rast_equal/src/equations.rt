@@ -152,7 +152,12 @@ fn check_opened(
     ensures { Accepts (equation_points table.now.defs equations.now equation.now) result }
 {
     match expose_both(alloc, table, equation) {
-        Ok((left, right)) => check_exposed(alloc, equations, equation, &left, &right),
+        Ok((left, right)) => {
+            let checked = check_exposed(alloc, equations, equation, &left, &right);
+            drop(left);
+            drop(right);
+            checked
+        }
         Err(why) => Err((3, why)),
     }
 }
@@ -215,7 +220,10 @@ fn expose_both(
     match expose(alloc, table, equation.vars, &equation.left) {
         Ok(left) => match expose(alloc, table, equation.vars, &equation.right) {
             Ok(right) => Ok((left, right)),
-            Err(e) => Err(stopped(e)),
+            Err(e) => {
+                drop(left);
+                Err(stopped(e))
+            }
         },
         Err(IndexErr::Coefficient) => Err(second_stop(alloc, table, equation)),
         Err(IndexErr::Variables) => Err(stopped(IndexErr::Variables)),
@@ -228,7 +236,10 @@ fn second_stop(alloc: Global, table: &TypeTable, equation: &Equation) -> SameErr
     ensures { SecondStop (is_deep equation.now.vars (exposed_type table.now.defs equation.now.vars equation.now.right).body) result }
 {
     match expose(alloc, table, equation.vars, &equation.right) {
-        Ok(_) => stopped(IndexErr::Coefficient),
+        Ok(right) => {
+            drop(right);
+            stopped(IndexErr::Coefficient)
+        }
         Err(e) => stopped(e),
     }
 }

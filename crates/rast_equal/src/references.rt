@@ -1,5 +1,5 @@
 // The references of a walk, served in order.
-ghost use Rattle.std.specs.Prelude.{◌≡◌, ◌∷◌, [], ◌≤◌, All, flat_map, length};
+ghost use Rattle.std.specs.Prelude.{◌≡◌, ◌∷◌, [], ◌≤◌, All, IfOk, flat_map, length};
 ghost use Rattle.std.specs.Option.{option_copied};
 ghost use Rattle.rast_index.specs.Truth.{put};
 ghost use Rattle.rast_types.specs.Made.{Answers as Makes};
@@ -7,7 +7,7 @@ ghost use Rattle.rast_types.specs.Symbolic.{put_type, made_type};
 ghost use Rattle.rast_equal.specs.Fault.{Decides, Serves, stopped};
 ghost use Rattle.rast_equal.specs.Fit.{AreFit, IsAsked, IsFit, IsFitEquation, IsFitMet, IsScope, IsWithinType};
 ghost use Rattle.rast_equal.specs.declared.met.Met.TheVariants.{Names};
-ghost use Rattle.rast_equal.specs.Walk.{alike, alike_at, by_equation, by_ref, left, numbered_from_1, or_refl, premise_points, serve, side_alike};
+ghost use Rattle.rast_equal.specs.Walk.{alike, alike_at, by_equation, by_ref, left, numbered_from_1, or_refl, pair, premise_points, serve, side_alike};
 
 use crate::answer::SameErr;
 use crate::demand::{ask, ask_name, ask_natural_each, wanted};
@@ -18,19 +18,27 @@ use crate::walk::next;
 use rast_index::{Formula, IndexErr, Lin, subst_formula};
 use rast_types::{Equation, Ref, Stop, Ty, TypeDef, TypeTable, copy_terms, unfold};
 use sqlite_items::Items;
-use std::alloc::Global;
+use std::alloc::{AllocError, Global};
 
 /// Walks two types together without references: a name has to meet the same name with equal arguments.
 fn alike(alloc: Global, place: Place, left: Ty, right: Ty) -> Result<(), SameErr>
     requires { AreFit place left right }
     ensures { Decides (alike place left right) result }
 {
-    let mut pairs = Items::new(alloc);
-    pairs.push(Pair { place, left, right })?;
+    let mut pairs = only_pair(alloc, place, left, right)?;
     while let Some(mets) = next(alloc, &mut pairs)? {
         alike_each(alloc, mets.as_slice())?;
     }
     Ok(())
+}
+
+// These two types at this place, and no other pair.
+fn only_pair(alloc: Global, place: Place, left: Ty, right: Ty) -> Result<Items<Pair>, AllocError>
+    ensures { IfOk result (λ pairs. pairs ≡ pair place left right ∷ []) }
+{
+    let mut pairs = Items::new(alloc);
+    pairs.push(Pair { place, left, right })?;
+    Ok(pairs)
 }
 
 fn alike_each(alloc: Global, mets: &[Met]) -> Result<(), SameErr>
@@ -61,14 +69,27 @@ fn alike_at(alloc: Global, met: &Met) -> Result<(), SameErr>
 fn instance(alloc: Global, side: &Ty, params: u8, vars: u8, args: &[Lin]) -> Result<Ty, IndexErr>
     ensures { Makes (made_type vars (put_type vars args.now side.now)) result }
 {
+    let args = copy_terms(alloc, args)?;
+    let table = table_of(alloc, side, params)?;
+    let named = Ty::Named(0, args);
+    let made = unfold(alloc, &table, vars, &named);
+    drop(named);
+    drop(table);
+    made
+}
+
+// A table whose only definition is this type, with so many parameters.
+fn table_of(alloc: Global, body: &Ty, params: u8) -> Result<TypeTable, AllocError>
+    ensures { IfOk result (λ t. t.defs ≡ record { name = 0; params = params; body = body.now } ∷ []) }
+{
+    let body = body.copy(alloc)?;
     let mut defs = Items::new(alloc);
     defs.push(TypeDef {
         name: 0,
         params,
-        body: side.copy(alloc)?,
+        body,
     })?;
-    let named = Ty::Named(0, copy_terms(alloc, args)?);
-    unfold(alloc, &TypeTable { defs }, vars, &named)
+    Ok(TypeTable { defs })
 }
 
 // Whether a type is alike a side of an equation at arguments.
@@ -79,8 +100,28 @@ fn alike_side(alloc: Global, place: &Place, a: &Ty, side: &Ty, args: &[Lin]) -> 
     ensures { Decides (side_alike place.now a.now (put_type place.now.vars args.now side.now)) result }
 {
     match instance(alloc, side, 0, place.vars, args) {
-        Ok(made) => alike(alloc, place.copy(alloc)?, a.copy(alloc)?, made),
+        Ok(made) => match placed(alloc, place, a) {
+            Ok((place, a)) => alike(alloc, place, a, made),
+            Err(_) => {
+                drop(made);
+                Err(SameErr::Memory)
+            }
+        },
         Err(e) => Err(stopped(e)),
+    }
+}
+
+// The same place and the same type again.
+fn placed(alloc: Global, place: &Place, a: &Ty) -> Result<(Place, Ty), AllocError>
+    ensures { IfOk result (λ both. (both.0 ≡ place.now) × (both.1 ≡ a.now)) }
+{
+    let place = place.copy(alloc)?;
+    match a.copy(alloc) {
+        Ok(a) => Ok((place, a)),
+        Err(error) => {
+            drop(place);
+            Err(error)
+        }
     }
 }
 
@@ -106,7 +147,11 @@ fn ask_premise(alloc: Global, place: &Place, premise: &Formula, args: &[Lin]) ->
     ensures { Decides (premise_points place.now args.now premise.now) result }
 {
     match subst_formula(alloc, premise, args) {
-        Ok(made) => ask(alloc, place, &made),
+        Ok(made) => {
+            let asked = ask(alloc, place, &made);
+            drop(made);
+            asked
+        }
         Err(e) => Err(stopped(e)),
     }
 }

@@ -3,6 +3,7 @@ ghost use Rattle.std.specs.Prelude.{◌≡◌, ◌<◌, ◌∷◌, [], true, if�
 ghost use Rattle.std.specs.List.{list_all};
 ghost use Rattle.std.specs.Option.{option_copied};
 ghost use Rattle.rast_index.specs.Keys.{find_key};
+ghost use Rattle.rast_index.specs.Linear.{nought};
 ghost use Rattle.rast_index.specs.Truth.{is_equal};
 ghost use Rattle.rast_types.specs.Symbolic.{is_name, is_next, timed};
 ghost use Rattle.rast_equal.specs.Fit.{IsFit, AreFit, IsScope, AreWithinTypes};
@@ -35,12 +36,21 @@ pub(crate) fn next(alloc: Global, pairs: &mut Items<Pair>) -> Result<Option<Item
 {
     match pairs.pop() {
         Some(pair) => {
-            let shown = show(alloc, &pair)?;
+            let shown = shown_of(alloc, pair)?;
             pairs.append(shown.parts)?;
             Ok(Some(shown.own))
         }
         None => Ok(None),
     }
+}
+
+fn shown_of(alloc: Global, pair: Pair) -> Result<Shown, AllocError>
+    requires { IsFit pair }
+    ensures { IfOk result (Shows pair) }
+{
+    let shown = show(alloc, &pair);
+    drop(pair);
+    shown
 }
 
 fn show(alloc: Global, pair: &Pair) -> Result<Shown, AllocError>
@@ -63,14 +73,18 @@ fn show(alloc: Global, pair: &Pair) -> Result<Shown, AllocError>
     if is_next(right) {
         return show_ticks(alloc, place, left, right);
     }
-    let mut own = Items::new(alloc);
-    own.push(wants_equal(alloc, place, &Lin::nought(), &Lin::nought())?)?;
     let heads = show_heads(alloc, place, left, right)?;
-    own.append(heads.own)?;
-    Ok(Shown {
-        own,
-        parts: heads.parts,
-    })
+    after_ticks(alloc, place, heads)
+}
+
+// What is met at two heads, after the demand that no ticks are equal to none.
+fn after_ticks(alloc: Global, place: &Place, heads: Shown) -> Result<Shown, AllocError>
+    ensures { IfOk result (λ s. (s.own ≡ Wants place.now (is_equal nought nought) ∷ heads.own) × (s.parts ≡ heads.parts)) }
+{
+    let Shown { own: more, parts } = heads;
+    let mut own = only_equal(alloc, place, &Lin::nought(), &Lin::nought())?;
+    own.append(more)?;
+    Ok(Shown { own, parts })
 }
 
 // One thing met, and nothing below.
@@ -97,23 +111,44 @@ fn is_next(a: &Ty) -> bool
     matches!(a, Ty::Next(_, _))
 }
 
-fn pair(alloc: Global, place: Place, left: &Ty, right: &Ty) -> Result<Pair, AllocError>
+/// Both types at the place.
+pub(crate) fn pair(alloc: Global, place: Place, left: &Ty, right: &Ty) -> Result<Pair, AllocError>
     ensures { IfOk result (λ x. x ≡ pair place left.now right.now) }
 {
-    Ok(Pair {
-        place,
-        left: left.copy(alloc)?,
-        right: right.copy(alloc)?,
-    })
+    match copy_both(alloc, left, right) {
+        Ok((left, right)) => Ok(Pair { place, left, right }),
+        Err(error) => {
+            drop(place);
+            Err(error)
+        }
+    }
+}
+
+// The same types again.
+fn copy_both(alloc: Global, left: &Ty, right: &Ty) -> Result<(Ty, Ty), AllocError>
+    ensures { IfOk result (λ both. (both.0 ≡ left.now) × (both.1 ≡ right.now)) }
+{
+    let left = left.copy(alloc)?;
+    match right.copy(alloc) {
+        Ok(right) => Ok((left, right)),
+        Err(error) => {
+            drop(left);
+            Err(error)
+        }
+    }
 }
 
 fn show_names(alloc: Global, place: &Place, left: &Ty, right: &Ty) -> Result<Shown, AllocError>
     ensures { IfOk result (λ s. (s.own ≡ Names place.now left.now right.now ∷ []) × (s.parts ≡ [])) }
 {
-    only(
-        alloc,
-        Met::Names(place.copy(alloc)?, left.copy(alloc)?, right.copy(alloc)?),
-    )
+    let place = place.copy(alloc)?;
+    match copy_both(alloc, left, right) {
+        Ok((left, right)) => only(alloc, Met::Names(place, left, right)),
+        Err(error) => {
+            drop(place);
+            Err(error)
+        }
+    }
 }
 
 // The demand that two terms are equal.
@@ -124,6 +159,15 @@ fn wants_equal(alloc: Global, place: &Place, a: &Lin, b: &Lin) -> Result<Met, Al
         place.copy(alloc)?,
         Formula::Rel(a.again(), Rel::Eq, b.again()),
     ))
+}
+
+// That demand alone.
+fn only_equal(alloc: Global, place: &Place, a: &Lin, b: &Lin) -> Result<Items<Met>, AllocError>
+    ensures { IfOk result (λ own. own ≡ Wants place.now (is_equal a.now b.now) ∷ []) }
+{
+    let mut own = Items::new(alloc);
+    own.push(wants_equal(alloc, place, a, b)?)?;
+    Ok(own)
 }
 
 // The ticks of a type, and its body.
@@ -142,11 +186,9 @@ fn show_ticks(alloc: Global, place: &Place, left: &Ty, right: &Ty) -> Result<Sho
 {
     let (ticks, body) = timed(left);
     let (other_ticks, other_body) = timed(right);
-    let mut own = Items::new(alloc);
-    own.push(wants_equal(alloc, place, &ticks, &other_ticks)?)?;
-    let mut parts = Items::new(alloc);
-    parts.push(pair(alloc, place.copy(alloc)?, body, other_body)?)?;
-    Ok(Shown { own, parts })
+    let own = only_equal(alloc, place, &ticks, &other_ticks)?;
+    let place = place.copy(alloc)?;
+    show_below(alloc, own, place, body, other_body)
 }
 
 /// What is met at two heads, and the pairs of their parts.
@@ -244,8 +286,22 @@ fn show_inner(
 ) -> Result<Shown, AllocError>
     ensures { IfOk result (λ s. (s.own ≡ own) × (s.parts ≡ pair (down Inner place) a.now b.now ∷ [])) }
 {
+    let place = place.down(Part::Inner)?;
+    show_below(alloc, own, place, a, b)
+}
+
+// Two types at this place, after what was met at the heads.
+fn show_below(
+    alloc: Global,
+    own: Items<Met>,
+    place: Place,
+    a: &Ty,
+    b: &Ty,
+) -> Result<Shown, AllocError>
+    ensures { IfOk result (λ s. (s.own ≡ own) × (s.parts ≡ pair place a.now b.now ∷ [])) }
+{
     let mut parts = Items::new(alloc);
-    parts.push(pair(alloc, place.down(Part::Inner)?, a, b)?)?;
+    parts.push(pair(alloc, place, a, b)?)?;
     Ok(Shown { own, parts })
 }
 
@@ -267,10 +323,8 @@ fn show_two(
     ensures { IfOk result (λ s. (s.own ≡ []) × (s.parts ≡ pair (down Second place.now) seconds.entry.0.now seconds.entry.1.now ∷ pair (down First place.now) firsts.entry.0.now firsts.entry.1.now ∷ [])) }
 {
     let mut parts = Items::new(alloc);
-    let second = place.copy(alloc)?.down(Part::Second)?;
-    parts.push(pair(alloc, second, seconds.0, seconds.1)?)?;
-    let first = place.copy(alloc)?.down(Part::First)?;
-    parts.push(pair(alloc, first, firsts.0, firsts.1)?)?;
+    parts.push(part_at(alloc, place, Part::Second, seconds.0, seconds.1)?)?;
+    parts.push(part_at(alloc, place, Part::First, firsts.0, firsts.1)?)?;
     Ok(Shown {
         own: Items::new(alloc),
         parts,
@@ -287,12 +341,57 @@ fn show_formulas(
     ensures { IfOk result (λ s. (s.own ≡ both formulas.entry.0.now formulas.entry.1.now place.now) × (s.parts ≡ pair (down Inner (under formulas.entry.0.now place.now)) bodies.entry.0.now bodies.entry.1.now ∷ [])) }
 {
     let (f, g) = formulas;
-    let mut own = Items::new(alloc);
-    let inner = place.copy(alloc)?.under(f.copy(alloc)?)?;
-    own.push(Met::Wants(inner.copy(alloc)?, g.copy(alloc)?))?;
-    let other = place.copy(alloc)?.under(g.copy(alloc)?)?;
-    own.push(Met::Wants(other, f.copy(alloc)?))?;
+    let own = wants_both(alloc, place, f, g)?;
+    let inner = presuming(alloc, place, f)?;
     show_inner(alloc, own, inner, bodies.0, bodies.1)
+}
+
+// Each of two formulas has to follow from the other.
+fn wants_both(
+    alloc: Global,
+    place: &Place,
+    f: &Formula,
+    g: &Formula,
+) -> Result<Items<Met>, AllocError>
+    ensures { IfOk result (λ own. own ≡ both f.now g.now place.now) }
+{
+    let mut own = Items::new(alloc);
+    own.push(wants_under(alloc, place, f, g)?)?;
+    own.push(wants_under(alloc, place, g, f)?)?;
+    Ok(own)
+}
+
+// The place where this formula is presumed too.
+fn presuming(alloc: Global, place: &Place, premise: &Formula) -> Result<Place, AllocError>
+    ensures { IfOk result (λ p. p ≡ under premise.now place.now) }
+{
+    let place = place.copy(alloc)?;
+    match premise.copy(alloc) {
+        Ok(premise) => place.under(premise),
+        Err(error) => {
+            drop(place);
+            Err(error)
+        }
+    }
+}
+
+// The demand that a formula follows where another is presumed too.
+fn wants_under(
+    alloc: Global,
+    place: &Place,
+    premise: &Formula,
+    goal: &Formula,
+) -> Result<Met, AllocError>
+    ensures { IfOk result (λ m. m ≡ Wants (under premise.now place.now) goal.now) }
+{
+    let inner = presuming(alloc, place, premise)?;
+    match goal.copy(alloc) {
+        Ok(goal) => Ok(Met::Wants(inner, goal)),
+        Err(error) => {
+            drop(inner);
+            Err(error)
+        }
+    }
 }
 
 fn show_potentials(
@@ -303,8 +402,7 @@ fn show_potentials(
 ) -> Result<Shown, AllocError>
     ensures { IfOk result (λ s. (s.own ≡ Wants place.now (is_equal potentials.entry.0.now potentials.entry.1.now) ∷ []) × (s.parts ≡ pair (down Inner place.now) bodies.entry.0.now bodies.entry.1.now ∷ [])) }
 {
-    let mut own = Items::new(alloc);
-    own.push(wants_equal(alloc, place, potentials.0, potentials.1)?)?;
+    let own = only_equal(alloc, place, potentials.0, potentials.1)?;
     show_inner(alloc, own, place.copy(alloc)?, bodies.0, bodies.1)
 }
 
@@ -387,6 +485,14 @@ fn show_order(
     Ok(own)
 }
 
+// Two parts, at the place below.
+fn part_at(alloc: Global, place: &Place, part: Part, a: &Ty, b: &Ty) -> Result<Pair, AllocError>
+    ensures { IfOk result (λ x. x ≡ pair (down part place.now) a.now b.now) }
+{
+    let below = place.copy(alloc)?.down(part)?;
+    pair(alloc, below, a, b)
+}
+
 // The parts at each label of the first, the first last.
 fn show_labels(
     alloc: Global,
@@ -406,8 +512,7 @@ fn show_labels(
         i -= 1;
         let (label, a) = &ts[i];
         if let Some(b) = find(us, *label) {
-            let below = place.copy(alloc)?.down(Part::Label(*label))?;
-            parts.push(pair(alloc, below, a, b)?)?;
+            parts.push(part_at(alloc, place, Part::Label(*label), a, b)?)?;
         }
     }
     Ok(parts)

@@ -2,7 +2,5 @@
 #![tactic(auto)]
 
 mod potential;
-#[cfg(test)]
-mod tests;
 
 pub use potential::{affords, empty, gains, spends};

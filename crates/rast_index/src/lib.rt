@@ -7,8 +7,6 @@ mod formula;
 mod refusal;
 mod substitution;
 mod term;
-#[cfg(test)]
-mod tests;
 mod value;
 
 pub use arithmetic::{add, scale, sub, subst};

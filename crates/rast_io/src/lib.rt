@@ -16,6 +16,3 @@ pub use mem_files::MemFiles;
 pub use mem_sink::MemSink;
 pub use outside::{Failed, Files, Sink};
 pub use whole::{LIMIT, ReadErr, WriteFault, read_all, write_all};
-
-#[cfg(test)]
-mod tests;

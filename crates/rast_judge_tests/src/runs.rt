@@ -1,4 +1,5 @@
-// The beginning of a run. Runs are tested where texts are accepted first (`rast_cli`).
+// The beginning of a run. Runs are tested where texts are accepted first: by `rast_run_tests`, and by
+// the case files of `rast_rows`.
 ghost use Rattle.std.specs.Prelude.{◌≡◌, IfOk, pos};
 ghost use Rattle.rast_core.specs.Promises.{CanStart};
 

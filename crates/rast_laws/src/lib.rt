@@ -4,13 +4,3 @@
 mod law;
 
 pub use law::sound_law;
-
-#[cfg(test)]
-mod tests {
-    use crate::law::sound_law;
-
-    #[test]
-    fn the_law_is_called() {
-        sound_law();
-    }
-}

@@ -1,6 +1,6 @@
 -- So many names can't take one more numbered name than there are of them, so a new name is free.
 use Rattle.std.proofs.Common.{arith, ◌≡◌, ◌∙◌, ℕ, zero, suc, ◌+◌, ◌^◌, ◌<◌, ◌≤◌, Bool, true, false, ◌||◌, if◌then◌else◌, List, [], ◌∷◌, ◌++◌, length, drop, Result, Ok, Err, refl, sym, ap, ap₂, subst}
-use Rattle.std.specs.Prelude.{IfOk, OnOk}
+use Rattle.std.specs.Prelude.{OnOk}
 use Rattle.std.specs.List.{AllByRecursion, IsDistinct}
 use Rattle.std.specs.Set.{is_member}
 use Rattle.std.specs.Str.{bytes_eq}
@@ -68,7 +68,7 @@ all_taken (t ∷ ts) k taken name e q h = by (is_taken taken (numbered_name name
     by true true s r g m rest = ap (is_taken taken) ((bytes_eq-Decides q (numbered_name name k)).0 r) ∙ s
     by true false s r g m rest = rest g m
 
-free_is_free : (taken : List Text) (name : Text) → length taken + 1 < 2 ^ 64 → is_taken taken (free_from taken 1 taken name) ≡ false
+pub free_is_free : (taken : List Text) (name : Text) → length taken + 1 < 2 ^ 64 → is_taken taken (free_from taken 1 taken name) ≡ false
 free_is_free taken name within = by (is_taken taken (free_from taken 1 taken name)) refl
   where
     by : (b : Bool) → is_taken taken (free_from taken 1 taken name) ≡ b → b ≡ false
@@ -91,10 +91,6 @@ pub push_apart : (taken : List Text) (p : Text) → is_taken taken p ≡ false �
 push_apart taken p free apart = IsDistinct-push nat_list_eq_equiv taken p apart (sym (taken_is taken p) ∙ free)
 
 -- ---- answers that may be want of memory
-
-pub free_answer : {E : Type 0} (r : Result Text E) (taken : List Text) (name : Text) → length taken + 1 < 2 ^ 64 → IfOk r (λ p. p ≡ new_name taken name) → IfOk r (λ p. is_taken taken p ≡ false)
-free_answer {E} (Ok p) taken name within h = ap (is_taken taken) h ∙ new_is_free taken name within
-free_answer {E} (Err e) taken name within h = tt
 
 pub apart_answer : {U E : Type 0} (r : Result U E) (old new : List Text) (p : Text) → is_taken old p ≡ false → OnOk r (new ≡ old ++ p ∷ []) → OnOk r (IsDistinct bytes_eq old → IsDistinct bytes_eq new)
 apart_answer {U} {E} (Ok u) old new p free put = λ apart. subst (IsDistinct bytes_eq) (sym put) (push_apart old p free apart)

@@ -1,4 +1,5 @@
 pub mod Paths
 pub mod Fresh
+pub mod Counting
 pub mod Scoping
 pub mod Finding

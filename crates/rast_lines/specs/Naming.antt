@@ -1,40 +1,20 @@
 -- The names that are printed for the channels and the index variables at a node.
-use Rattle.std.specs.Prelude.{ℕ, ◌+◌, Bool, if◌then◌else◌, List, [], ◌∷◌, ◌++◌, map, take, Option, Some, None, slice_get}
-use Rattle.std.specs.List.{list_any, IsDistinct}
+use Rattle.std.specs.Prelude.{ℕ, List, [], ◌∷◌, map, take, Option, Some, None, slice_get}
+use Rattle.std.specs.List.{IsDistinct}
 use Rattle.std.specs.Str.{bytes_eq}
-use Rattle.std.specs.Fmt.{decimal}
 use Rattle.rast_terms.specs.declared.program.Program.{Program}
 use Rattle.rast_terms.specs.declared.program.Decl.{Decl}
 use Rattle.rast_terms.specs.declared.node.Node.{Node}
 use Rattle.rast_terms.specs.declared.node.Node.TheVariants as node
 pub use Rattle.rast_lines.specs.declared.names.Names.{Names}
+pub use Rattle.rast_lines.specs.NewNames.{numbered_name, is_taken, free_from, new_name, with_new}
 use Rattle.rast_lines.specs.Places.{decl_of, nodes_above}
-use Rattle.rast_terms.specs.Texts.{Text, name_text}
+use Rattle.rast_terms.specs.Texts.{name_text}
 
 -- a list of numbers of names, where there is one
 abbrev pub or_none : Option (List ℕ) → List ℕ
 or_none None = []
 or_none (Some ns) = ns
-
--- a name, `_` and a number
-abbrev pub numbered_name : Text → ℕ → Text
-numbered_name name k = name ++ (95 ∷ decimal k)
-
-abbrev pub is_taken : List Text → Text → Bool
-is_taken taken name = list_any (λ t. bytes_eq t name) taken
-
--- the first numbered name from k on that isn't taken, tried as often as there are names in a list
-abbrev pub free_from : List Text → ℕ → List Text → Text → Text
-free_from [] k taken name = numbered_name name k
-free_from (t ∷ ts) k taken name = if is_taken taken (numbered_name name k) then free_from ts (k + 1) taken name else numbered_name name k
-
--- The name itself where it is free, and else the name, `_`, and the least number from 1 on that makes it free:
--- so many names can't take one more numbered name than there are of them.
-abbrev pub new_name : List Text → Text → Text
-new_name taken name = if is_taken taken name then free_from taken 1 taken name else name
-
-abbrev pub with_new : List Text → Text → List Text
-with_new taken name = taken ++ new_name taken name ∷ []
 
 abbrev pub params_of : Option Decl → ℕ
 params_of None = 0

@@ -2,7 +2,8 @@
 ghost use Rattle.std.specs.Prelude.{◌≡◌, ◌++◌, OnOk};
 ghost use Rattle.rast_lines.specs.Lines.{kind_text, part_text, parts_text, path_text, fails_text, same_text, channel_text, evidence_text};
 
-use crate::names::{Names, Printed};
+use crate::names::Names;
+use crate::shown::Printed;
 use crate::valuation::put_values;
 use crate::write::put;
 use rast_equal::{Part, SameErr};

@@ -6,8 +6,10 @@ mod names;
 mod place;
 mod refusal;
 mod scopes;
+mod shown;
 mod valuation;
 mod write;
 
-pub use names::{Names, Printed, names_at};
+pub use names::{Names, body_names, names_at, names_below};
 pub use refusal::line;
+pub use shown::{NameList, Printed};

@@ -1,111 +1,36 @@
 // The names that are printed at a node.
-ghost use Rattle.std.specs.Prelude.{◌≡◌, ℕ, List, false, map, IfOk, OnOk, slice_get};
+ghost use Rattle.std.specs.Prelude.{◌≡◌, ℕ, List, map, IfOk, OnOk, slice_get};
 ghost use Rattle.std.specs.List.{IsDistinct};
 ghost use Rattle.std.specs.Str.{bytes_eq};
 ghost use Rattle.rast_lines.specs.Lines.{def_names, decl_names};
 ghost use Rattle.rast_terms.specs.Texts.{name_text};
-ghost use Rattle.rast_lines.specs.Naming.{or_none, numbered_name, is_taken, new_name, with_new, body_names, names_below, names_after, names_at, AreApart};
+ghost use Rattle.rast_lines.specs.Naming.{or_none, with_new, body_names, names_below, names_after, names_at, AreApart};
 ghost use Rattle.rast_lines.specs.Places as places;
 ghost use Rattle.rast_rules.specs.Plan.{IsForest, IsBody};
 
 use crate::place::{decl_of, nodes_above};
 use crate::scopes::{Sought, refused_names};
+use crate::shown::{NameList, Printed};
 use rast_terms::{Node, Program};
 use sqlite_items::Items;
 use std::alloc::{AllocError, Global};
-use std::marker::Model;
-
-/// A name as it is printed: one of the program's, or such a name with `_` and a number behind it. It may have any length.
-#[derive(Drop)]
-pub struct Printed {
-    bytes: Vec<u8>,
-}
-
-impl Model for Printed {
-    ghost use Rattle.std.specs.Prelude.{List, ℕ};
-
-    ghost Value = { List ℕ };
-
-    ghost view = { λ p. p.bytes.items };
-}
 
 /// The names printed for the channels in scope, by their numbers, and for the index variables.
 #[derive(Drop)]
 pub struct Names {
     /// Those of the channels, also of those that are used up.
-    pub channels: Items<Printed>,
+    pub channels: NameList,
     /// Those of the index variables.
-    pub vars: Items<Printed>,
-}
-
-impl Printed {
-    /// Its bytes.
-    pub fn as_bytes(&self) -> &[u8]
-        ensures { result.now ≡ self.now }
-    {
-        self.bytes.as_slice()
-    }
-
-    // The name with this number.
-    fn of(alloc: Global, program: &Program, name: u32) -> Result<Printed, AllocError>
-        ensures { IfOk result (λ p. p ≡ name_text program.now name) }
-    {
-        let bytes = match program.names.get(name as usize) {
-            Some(name) => Vec::from_slice(alloc, name.as_bytes())?,
-            None => Vec::new(alloc),
-        };
-        Ok(Printed { bytes })
-    }
-
-    // The name with `_` and a number behind it.
-    fn numbered(alloc: Global, name: &Printed, number: usize) -> Result<Printed, AllocError>
-        ensures { IfOk result (λ p. p ≡ numbered_name name.now number) }
-    {
-        let mut bytes = Vec::from_slice(alloc, name.as_bytes())?;
-        bytes.push(b'_')?;
-        let digits = format!(in alloc; "{number}")?;
-        bytes.extend_from_slice(digits.as_bytes())?;
-        Ok(Printed { bytes })
-    }
-}
-
-// Whether a name is one of those taken.
-fn is_taken(taken: &[Printed], name: &Printed) -> bool
-    ensures { result ≡ is_taken taken.now name.now }
-{
-    taken.iter().any(|t| t.as_bytes() == name.as_bytes())
-}
-
-// The name where it is free, and else with the least number from 1 on that makes it free.
-fn new_name(alloc: Global, taken: &[Printed], name: Printed) -> Result<Printed, AllocError>
-    ensures value { IfOk result (λ p. p ≡ new_name taken.now name) }
-    ensures free { IfOk result (λ p. is_taken taken.now p ≡ false) }
-{
-    if !is_taken(taken, &name) {
-        return Ok(name);
-    }
-    for (index, _) in taken.iter().enumerate() {
-        let other = Printed::numbered(alloc, &name, index + 1)?;
-        if !is_taken(taken, &other) {
-            return Ok(other);
-        }
-    }
-    Printed::numbered(alloc, &name, taken.len() + 1)
+    pub vars: NameList,
 }
 
 // One more name, printed so that it is new.
-fn add(
-    alloc: Global,
-    names: &mut Items<Printed>,
-    program: &Program,
-    name: u32,
-) -> Result<(), AllocError>
+fn add(alloc: Global, names: &mut NameList, program: &Program, name: u32) -> Result<(), AllocError>
     ensures value { OnOk result (names.new ≡ with_new names.old (name_text program.now name)) }
     ensures apart { OnOk result (IsDistinct bytes_eq names.old → IsDistinct bytes_eq names.new) }
 {
     let own = Printed::of(alloc, program, name)?;
-    let printed = new_name(alloc, names.as_slice(), own)?;
-    names.push(printed)
+    names.push_new(alloc, own)
 }
 
 /// The names with these numbers.
@@ -123,6 +48,17 @@ pub(crate) fn named(
     Ok(names)
 }
 
+// The same as a list in which a new name is found at once.
+fn list_of(alloc: Global, program: &Program, numbers: &[u32]) -> Result<NameList, AllocError>
+    ensures { IfOk result (λ ns. ns ≡ map (name_text program.now) numbers.now) }
+{
+    let mut names = NameList::new(alloc);
+    for number in numbers {
+        names.push(alloc, Printed::of(alloc, program, *number)?)?;
+    }
+    Ok(names)
+}
+
 // A list of numbers of names, where there is one.
 fn listed(lists: &[Items<u32>], at: usize) -> &[u32]
     ensures { result.now ≡ or_none (slice_get lists.now at) }
@@ -133,8 +69,8 @@ fn listed(lists: &[Items<u32>], at: usize) -> &[u32]
     }
 }
 
-// The names at a declaration's body.
-fn body_names(alloc: Global, program: &Program, decl: usize) -> Result<Names, AllocError>
+/// The names at a declaration's body: those that the declaration gives its channels and its parameters.
+pub fn body_names(alloc: Global, program: &Program, decl: usize) -> Result<Names, AllocError>
     ensures { IfOk result (λ names. names ≡ body_names program.now decl) }
 {
     let params = match program.decls.get(decl) {
@@ -144,13 +80,15 @@ fn body_names(alloc: Global, program: &Program, decl: usize) -> Result<Names, Al
     let channels = listed(program.said.channels.as_slice(), decl);
     let numbers = listed(program.said.decls.as_slice(), decl);
     Ok(Names {
-        channels: named(alloc, program, channels)?,
-        vars: named(alloc, program, &numbers[..numbers.len().min(params)])?,
+        channels: list_of(alloc, program, channels)?,
+        vars: list_of(alloc, program, &numbers[..numbers.len().min(params)])?,
     })
 }
 
-// The names below a node.
-fn names_below(
+/// The names below a node: one more where it binds one, printed so that no other of its kind is printed alike.
+///
+/// Its time doesn't grow with the names that are there: all nodes of a way down take about n log n together.
+pub fn names_below(
     alloc: Global,
     program: &Program,
     names: &mut Names,

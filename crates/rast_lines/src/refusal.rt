@@ -4,9 +4,10 @@ ghost use Rattle.std.specs.Fmt.{decimal};
 ghost use Rattle.rast_lines.specs.Lines.{line, type_line, decl_line, equation_line, equation_bound, equation_refused, node_text, rule_of, rule_word, rule_text, premise_text, valued};
 
 use crate::evidence::{put_evidence, put_same};
-use crate::names::{Printed, decl_names, def_names, names_at};
+use crate::names::{decl_names, def_names, names_at};
 use crate::place::{decl_of, nodes_above};
 use crate::scopes::Sought;
+use crate::shown::Printed;
 use crate::valuation::put_values;
 use crate::write::{put, put_number};
 use rast_check::CheckErr;

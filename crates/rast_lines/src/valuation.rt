@@ -2,7 +2,7 @@
 ghost use Rattle.std.specs.Prelude.{◌≡◌, ◌++◌, OnOk, OnSome, take, IfSome};
 ghost use Rattle.rast_lines.specs.Lines.{variable_text, separator, with_values};
 
-use crate::names::Printed;
+use crate::shown::Printed;
 use crate::write::{put, put_number};
 use std::alloc::{AllocError, Global};
 

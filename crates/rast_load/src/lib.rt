@@ -4,8 +4,6 @@
 mod built;
 mod fault;
 mod form;
-#[cfg(test)]
-mod tests;
 mod text_file;
 
 pub use built::unbuilt;

@@ -4,13 +4,3 @@
 mod law;
 
 pub use law::meant_law;
-
-#[cfg(test)]
-mod tests {
-    use crate::law::meant_law;
-
-    #[test]
-    fn the_law_is_called() {
-        meant_law();
-    }
-}

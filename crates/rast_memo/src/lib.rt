@@ -4,8 +4,6 @@
 mod code;
 mod memo;
 mod obligation;
-#[cfg(test)]
-mod tests;
 
 pub use memo::Memo;
 pub use obligation::Obligation;

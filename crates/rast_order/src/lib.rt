@@ -4,15 +4,3 @@
 mod order;
 
 pub use order::{links_law, numbers_law, order_law};
-
-#[cfg(test)]
-mod tests {
-    use crate::order::{links_law, numbers_law, order_law};
-
-    #[test]
-    fn laws_are_called() {
-        order_law();
-        links_law();
-        numbers_law();
-    }
-}

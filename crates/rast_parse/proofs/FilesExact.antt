@@ -1,6 +1,6 @@
 -- Files are read exactly.
 use Rattle.std.proofs.Common.{◌≡◌, ℕ, ◌-◌, Bool, true, false, ◌&&◌, List, [], ◌∷◌, ◌++◌, map, Option, Some, None, ap, ap₂, sym, ◌∙◌, refl, subst, ◌⊎◌, inl, inr, append_assoc}
-use Rattle.rast_forms.specs.Words.{Name, Fixed, all_true}
+use Rattle.rast_forms.specs.Words.{Fixed, all_true}
 use Rattle.rast_forms.specs.Marks.{Mark, plain}
 use Rattle.rast_forms.specs.Reading.{Reader, seq_read, nil_read, alt_read, as_read, choice_read, guarded_read}
 use Rattle.rast_forms.proofs.Forms.{Form as Shape, Exact}

@@ -50,8 +50,9 @@ module _ (one : Reader Statement) (n k : ℕ) (steps : List Step) (r : List Word
   ended_at : (m : ℕ) (e : End) (after : List Word) → k < m → m ≡ n → one r ≡ Done (statement.End e) after → all ≡ Done (record { steps = steps; end = e }) after
   ended_at m e after h f g = sym (turn m h f) ∙ rw (g, ended_by e after (starts semi after)) (ap (λ (z : List Step). Done (record { steps = z; end = e }) after) (append-nil steps))
 
-  pub proc_end : (m : ℕ) (s : Statement) (e boxed : End) (after : List Word) → k < m → m ≡ n → one r ≡ Done s after → s ≡ statement.End e → boxed ≡ e → all ≡ Done (record { steps = steps; end = boxed }) after
-  proc_end m s e boxed after h f g i j = ended_at m e after h f (g ∙ ap (λ (z : Statement). Done z after) i) ∙ ap (λ (z : End). Done (record { steps = steps; end = z }) after) (sym j)
+  pub proc_end : (m : ℕ) (s : Statement) (e : End) (after : List Word) (result : Result (Proc × Cursor) Fault) → k < m → m ≡ n → one r ≡ Done s after → s ≡ statement.End e →
+      Gives result (Done (record { steps = steps; end = e }) after) → Gives result all
+  proc_end m s e after result h f g i w = subst (Gives result) (sym (ended_at m e after h f (g ∙ ap (λ (z : Statement). Done z after) i))) w
 
   last_at : (m : ℕ) (s : Step) (after : List Word) → k < m → m ≡ n → one r ≡ Done (statement.Step s) after → starts semi after ≡ false → all ≡ last_read steps s after
   last_at m s after h f g none = sym (turn m h f) ∙ rw (g, none) (last_is steps s after (is_spawn s) refl)

@@ -1,5 +1,5 @@
 -- Where no type may open, and types at each depth.
-use Rattle.std.proofs.Common.{◌≡◌, ℕ, zero, suc, ◌-◌, ◌<◌, Bool, true, false, ◌&&◌, ◌||◌, ◌==◌, List, [], ◌∷◌, ◌++◌, ap, sym, ◌∙◌, refl, subst, ◌⊎◌, inl, inr, arith}
+use Rattle.std.proofs.Common.{◌≡◌, ℕ, zero, suc, ◌<◌, Bool, true, false, ◌&&◌, List, [], ◌∷◌, ◌++◌, ap, sym, ◌∙◌, refl, subst, ◌⊎◌, inl, inr, arith}
 use Rattle.std.proofs.lemmas.Bool.{eqb-true}
 use Rattle.rast_forms.specs.Words.{Word, Name, Number, Fixed, is_in}
 use Rattle.rast_forms.specs.Marks.{Mark, bare, starred, highest}
@@ -7,7 +7,6 @@ use Rattle.rast_forms.specs.Reading.{Syntax, Bad, limited}
 use Rattle.rast_forms.proofs.Forms.{Exact, Begins, Right}
 use Rattle.rast_forms.proofs.Marking.{bare-starred}
 use Rattle.rast_forms.proofs.Shapes.{Opens, limit_deep, limit_wrong}
-use Rattle.rast_ast.specs.declared.kind.Kind.TheVariants as kind
 use Rattle.rast_ast.specs.declared.term.Lin.{Lin}
 use Rattle.rast_ast.specs.declared.term.Term.TheVariants as term
 use Rattle.rast_ast.specs.declared.type_expr.TypeExpr.{TypeExpr, out-TypeExpr}

@@ -1,5 +1,5 @@
 -- Reading files.
-use Rattle.std.specs.Prelude.{ℕ, Bool, true, false, List, [], ◌∷◌, ◌++◌, ◌⊎◌, Option, Some, None}
+use Rattle.std.specs.Prelude.{ℕ, Bool, true, false, List, [], ◌∷◌, ◌⊎◌, Option, Some, None}
 use Rattle.std.proofs.Common.{inl, inr}
 use Rattle.rast_forms.specs.Reading.{Reader, seq_read, nil_read, all_read, as_read, choice_read}
 use Rattle.rast_ast.specs.declared.kind.Kind.TheVariants as kind

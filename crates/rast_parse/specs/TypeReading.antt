@@ -1,5 +1,5 @@
 -- Reading types.
-use Rattle.std.specs.Prelude.{ℕ, zero, suc, Bool, true, false, ◌&&◌, ◌||◌, ◌==◌, cond, List, [], ◌∷◌, ◌++◌, ◌⊎◌, Option, Some, None}
+use Rattle.std.specs.Prelude.{ℕ, zero, suc, Bool, true, false, ◌==◌, cond, List, [], ◌∷◌, ◌++◌, ◌⊎◌, Option, Some, None}
 use Rattle.std.proofs.Common.{inl, inr}
 use Rattle.rast_forms.specs.Words.{Word, Name, Number, Fixed, is_in}
 use Rattle.rast_forms.specs.Reading.{Reader, ◌>>=◌, one_read, seq_read, nil_read, alt_read, all_read, as_read, choice_read, limited}

@@ -142,14 +142,16 @@ impl<'a> Cursor<'a> {
         match self.tokens.split_first() {
             Some((token, rest)) => {
                 if token.kind == Kind::Name {
-                    let name = Name::new(alloc, part(self.text, token.at, token.len))?;
-                    Ok((
-                        name,
-                        Cursor {
-                            text: self.text,
-                            tokens: rest,
-                        },
-                    ))
+                    match Name::new(alloc, part(self.text, token.at, token.len)) {
+                        Ok(name) => Ok((
+                            name,
+                            Cursor {
+                                text: self.text,
+                                tokens: rest,
+                            },
+                        )),
+                        Err(_) => Err(Fault::Memory),
+                    }
                 } else {
                     Err(self.wrong())
                 }

@@ -1,15 +1,17 @@
 // Formulas.
-ghost use Rattle.std.specs.Prelude.{◌≡◌, ◌-◌, true, length, List, ℕ};
+ghost use Rattle.std.specs.Prelude.{◌≡◌, ◌-◌, ◌≤◌, true, length, List, ℕ};
+ghost use Rattle.rast_ast.specs.Kinds.{code};
 ghost use Rattle.rast_parse.specs.Cursors.{seen};
 ghost use Rattle.rast_parse.specs.Answer.{Finds, Gives, limit_fault};
-ghost use Rattle.rast_forms.specs.Reading.{seq_read};
+ghost use Rattle.rast_forms.specs.Reading.{Done, as_read, seq_read};
 ghost use Rattle.rast_forms.specs.Words.{starts};
 ghost use Rattle.rast_ast.specs.declared.kind.Kind.TheVariants as kind;
-ghost use Rattle.rast_parse.specs.LinearReading.{lin_read};
-ghost use Rattle.rast_parse.specs.FormulaReading.{behind_kind, rel_read, divisor_read, not_by, bracket_by, divides_by, related_by, relation_by, literal_by, conjunction_by, further_literals_read, disjunction_by, further_conjunctions_read, form_by, formula_first, literal_read, form_read, is_division};
+ghost use Rattle.rast_ast.specs.declared.form.Literal.TheVariants as literal;
+ghost use Rattle.rast_parse.specs.LinearReading.{fixed_read, lin_read};
+ghost use Rattle.rast_parse.specs.FormulaReading.{behind_kind, rel_read, divisor_read, not_by, bracket_by, divides_by, related_by, relation_by, literal_by, true_read, false_read, conjunction_by, further_literals_read, disjunction_by, further_conjunctions_read, form_by, formula_first, literal_read, form_read, is_division};
 
 use crate::cursor::{Cursor, Fault};
-use rast_ast::{Conjunction, Disjunction, Form, Kind, Literal, Rel};
+use rast_ast::{Conjunction, Disjunction, Form, Kind, Lin, Literal, Rel};
 use sqlite_items::{Boxed, Items};
 use std::alloc::Global;
 
@@ -45,13 +47,38 @@ impl<'a> Cursor<'a> {
     fn form_below(self, alloc: Global, depth: usize) -> Result<(Form, Cursor<'a>), Fault>
         ensures { Gives result (form_by (literal_read depth) (form_read depth) (seen self.entry)) }
     {
-        let (premise, rest) = self.disjunction(alloc, depth)?;
-        if rest.at(Kind::RightArrow) {
-            let rest = rest.expect(Kind::RightArrow)?;
-            let (conclusion, rest) = rest.form(alloc, depth)?;
-            Ok((Form::Implies(premise, Boxed::new(alloc, conclusion)?), rest))
-        } else {
-            Ok((Form::Plain(premise), rest))
+        match self.disjunction(alloc, depth) {
+            Ok((premise, rest)) => {
+                if rest.at(Kind::RightArrow) {
+                    match rest.expect(Kind::RightArrow) {
+                        Ok(rest) => match rest.boxed_form(alloc, depth) {
+                            Ok((form, rest)) => Ok((Form::Implies(premise, form), rest)),
+                            Err(fault) => {
+                                drop(premise);
+                                Err(fault)
+                            }
+                        },
+                        Err(fault) => {
+                            drop(premise);
+                            Err(fault)
+                        }
+                    }
+                } else {
+                    Ok((Form::Plain(premise), rest))
+                }
+            }
+            Err(fault) => Err(fault),
+        }
+    }
+
+    // A formula, on the heap.
+    #[cycle(formula)]
+    fn boxed_form(self, alloc: Global, depth: usize) -> Result<(Boxed<Form>, Cursor<'a>), Fault>
+        ensures { Gives result (form_read depth (seen self.entry)) }
+    {
+        match self.form(alloc, depth) {
+            Ok((form, rest)) => Ok((Boxed::new(alloc, form)?, rest)),
+            Err(fault) => Err(fault),
         }
     }
 
@@ -59,15 +86,22 @@ impl<'a> Cursor<'a> {
     fn disjunction(self, alloc: Global, depth: usize) -> Result<(Disjunction, Cursor<'a>), Fault>
         ensures { Gives result (disjunction_by (literal_read depth) (seen self.entry)) }
     {
-        let (first, rest) = self.conjunction(alloc, depth)?;
-        let (further, rest) = rest.further_conjunctions(alloc, depth)?;
-        Ok((
-            Disjunction {
-                first,
-                rest: further,
+        match self.conjunction(alloc, depth) {
+            Ok((first, rest)) => match rest.further_conjunctions(alloc, depth) {
+                Ok((further, rest)) => Ok((
+                    Disjunction {
+                        first,
+                        rest: further,
+                    },
+                    rest,
+                )),
+                Err(fault) => {
+                    drop(first);
+                    Err(fault)
+                }
             },
-            rest,
-        ))
+            Err(fault) => Err(fault),
+        }
     }
 
     // The further conjunctions, each behind its `\/`.
@@ -87,8 +121,10 @@ impl<'a> Cursor<'a> {
             }
             match rest.further_conjunction(alloc, depth) {
                 Ok((conjunction, after)) => {
-                    items.push(conjunction)?;
-                    rest = after;
+                    match items.push(conjunction) {
+                        Ok(()) => rest = after,
+                        Err(_) => return Err(Fault::Memory),
+                    }
                 }
                 Err(fault) => return Err(fault),
             }
@@ -104,24 +140,35 @@ impl<'a> Cursor<'a> {
     ) -> Result<(Conjunction, Cursor<'a>), Fault>
         ensures { Gives result (behind_kind kind.Or (conjunction_by (literal_read depth)) (seen self.entry)) }
     {
-        let rest = self.expect(Kind::Or)?;
-        rest.conjunction(alloc, depth)
+        match self.expect(Kind::Or) {
+            Ok(rest) => rest.conjunction(alloc, depth),
+            Err(fault) => Err(fault),
+        }
     }
 
     #[cycle(formula)]
     fn conjunction(self, alloc: Global, depth: usize) -> Result<(Conjunction, Cursor<'a>), Fault>
         ensures { Gives result (conjunction_by (literal_read depth) (seen self.entry)) }
     {
-        let (first, rest) = self.literal(alloc, depth)?;
-        let (further, rest) = rest.further_literals(alloc, depth)?;
-        let first = Boxed::new(alloc, first)?;
-        Ok((
-            Conjunction {
-                first,
-                rest: further,
+        match self.literal(alloc, depth) {
+            Ok((first, rest)) => match rest.further_literals(alloc, depth) {
+                Ok((further, rest)) => {
+                    let first = Boxed::new(alloc, first)?;
+                    Ok((
+                        Conjunction {
+                            first,
+                            rest: further,
+                        },
+                        rest,
+                    ))
+                }
+                Err(fault) => {
+                    drop(first);
+                    Err(fault)
+                }
             },
-            rest,
-        ))
+            Err(fault) => Err(fault),
+        }
     }
 
     // The further members, each behind its `/\`.
@@ -141,8 +188,10 @@ impl<'a> Cursor<'a> {
             }
             match rest.further_literal(alloc, depth) {
                 Ok((literal, after)) => {
-                    items.push(literal)?;
-                    rest = after;
+                    match items.push(literal) {
+                        Ok(()) => rest = after,
+                        Err(_) => return Err(Fault::Memory),
+                    }
                 }
                 Err(fault) => return Err(fault),
             }
@@ -154,8 +203,10 @@ impl<'a> Cursor<'a> {
     fn further_literal(self, alloc: Global, depth: usize) -> Result<(Literal, Cursor<'a>), Fault>
         ensures { Gives result (behind_kind kind.And (literal_read depth) (seen self.entry)) }
     {
-        let rest = self.expect(Kind::And)?;
-        rest.literal(alloc, depth)
+        match self.expect(Kind::And) {
+            Ok(rest) => rest.literal(alloc, depth),
+            Err(fault) => Err(fault),
+        }
     }
 
     // A member of a conjunction, below at most `depth` open nonterminals, itself counted.
@@ -179,11 +230,29 @@ impl<'a> Cursor<'a> {
         } else if self.at(Kind::OpenBracket) {
             self.bracketed(alloc, depth)
         } else if self.at(Kind::True) {
-            Ok((Literal::True, self.expect(Kind::True)?))
+            self.truth()
         } else if self.at(Kind::False) {
-            Ok((Literal::False, self.expect(Kind::False)?))
+            self.falsity()
         } else {
             self.relation(alloc, depth)
+        }
+    }
+
+    fn truth(self) -> Result<(Literal, Cursor<'a>), Fault>
+        ensures { Gives result (true_read (seen self.entry)) }
+    {
+        match self.expect(Kind::True) {
+            Ok(rest) => Ok((Literal::True, rest)),
+            Err(fault) => Err(fault),
+        }
+    }
+
+    fn falsity(self) -> Result<(Literal, Cursor<'a>), Fault>
+        ensures { Gives result (false_read (seen self.entry)) }
+    {
+        match self.expect(Kind::False) {
+            Ok(rest) => Ok((Literal::False, rest)),
+            Err(fault) => Err(fault),
         }
     }
 
@@ -191,19 +260,42 @@ impl<'a> Cursor<'a> {
     fn negation(self, alloc: Global, depth: usize) -> Result<(Literal, Cursor<'a>), Fault>
         ensures { Gives result (not_by (literal_read depth) (seen self.entry)) }
     {
-        let rest = self.expect(Kind::Tilde)?;
-        let (literal, rest) = rest.literal(alloc, depth)?;
-        Ok((Literal::Not(Boxed::new(alloc, literal)?), rest))
+        match self.expect(Kind::Tilde) {
+            Ok(rest) => match rest.literal(alloc, depth) {
+                Ok((literal, rest)) => Ok((Literal::Not(Boxed::new(alloc, literal)?), rest)),
+                Err(fault) => Err(fault),
+            },
+            Err(fault) => Err(fault),
+        }
     }
 
     #[cycle(formula)]
     fn bracketed(self, alloc: Global, depth: usize) -> Result<(Literal, Cursor<'a>), Fault>
         ensures { Gives result (bracket_by (form_read depth) (seen self.entry)) }
     {
-        let rest = self.expect(Kind::OpenBracket)?;
-        let (form, rest) = rest.form(alloc, depth)?;
-        let rest = rest.expect(Kind::CloseBracket)?;
-        Ok((Literal::Group(Boxed::new(alloc, form)?), rest))
+        match self.expect(Kind::OpenBracket) {
+            Ok(rest) => match rest.form(alloc, depth) {
+                Ok((form, rest)) => match rest.expect(Kind::CloseBracket) {
+                    Ok(rest) => rest.grouped(alloc, form),
+                    Err(fault) => {
+                        drop(form);
+                        Err(fault)
+                    }
+                },
+                Err(fault) => Err(fault),
+            },
+            Err(fault) => Err(fault),
+        }
+    }
+
+    // The member that this formula is in brackets, all of it read.
+    fn grouped(self, alloc: Global, form: Form) -> Result<(Literal, Cursor<'a>), Fault>
+        ensures { Gives result (Done (literal.Group form) (seen self.entry)) }
+    {
+        match Boxed::new(alloc, form) {
+            Ok(form) => Ok((Literal::Group(form), self)),
+            Err(_) => Err(Fault::Memory),
+        }
     }
 
     // A division or a relation, whose terms are below at most `depth` open ones.
@@ -255,36 +347,72 @@ impl<'a> Cursor<'a> {
     fn division(self, alloc: Global, depth: usize) -> Result<(Literal, Cursor<'a>), Fault>
         ensures { Gives result (divides_by (lin_read true depth) (seen self.entry)) }
     {
-        let (divisor, rest) = self.divisor()?;
-        let rest = rest.expect(Kind::Bar)?;
-        let (sum, rest) = rest.lin(alloc, depth, true)?;
-        Ok((Literal::Divides(divisor, sum), rest))
+        match self.divisor() {
+            Ok((divisor, rest)) => match rest.expect(Kind::Bar) {
+                Ok(rest) => match rest.lin(alloc, depth, true) {
+                    Ok((sum, rest)) => Ok((Literal::Divides(divisor, sum), rest)),
+                    Err(fault) => Err(fault),
+                },
+                Err(fault) => Err(fault),
+            },
+            Err(fault) => Err(fault),
+        }
     }
 
     fn related(self, alloc: Global, depth: usize) -> Result<(Literal, Cursor<'a>), Fault>
         ensures { Gives result (related_by (lin_read true depth) (seen self.entry)) }
     {
-        let (left, rest) = self.lin(alloc, depth, true)?;
-        let (rel, rest) = rest.rel()?;
-        let (right, rest) = rest.lin(alloc, depth, true)?;
-        Ok((Literal::Related(left, rel, right), rest))
+        match self.lin(alloc, depth, true) {
+            Ok((left, rest)) => match rest.rel_and_sum(alloc, depth) {
+                Ok(((rel, right), rest)) => Ok((Literal::Related(left, rel, right), rest)),
+                Err(fault) => {
+                    drop(left);
+                    Err(fault)
+                }
+            },
+            Err(fault) => Err(fault),
+        }
+    }
+
+    // The sign of a relation, and the linear term behind it.
+    fn rel_and_sum(self, alloc: Global, depth: usize) -> Result<((Rel, Lin), Cursor<'a>), Fault>
+        ensures { Gives result (seq_read rel_read (lin_read true depth) (seen self.entry)) }
+    {
+        match self.rel() {
+            Ok((rel, rest)) => match rest.lin(alloc, depth, true) {
+                Ok((sum, rest)) => Ok(((rel, sum), rest)),
+                Err(fault) => Err(fault),
+            },
+            Err(fault) => Err(fault),
+        }
     }
 
     fn rel(self) -> Result<(Rel, Cursor<'a>), Fault>
         ensures { Gives result (rel_read (seen self.entry)) }
     {
         if self.at(Kind::Equal) {
-            Ok((Rel::Eq, self.expect(Kind::Equal)?))
+            self.rel_of(Kind::Equal, Rel::Eq)
         } else if self.at(Kind::NotEqual) {
-            Ok((Rel::Ne, self.expect(Kind::NotEqual)?))
+            self.rel_of(Kind::NotEqual, Rel::Ne)
         } else if self.at(Kind::Less) {
-            Ok((Rel::Lt, self.expect(Kind::Less)?))
+            self.rel_of(Kind::Less, Rel::Lt)
         } else if self.at(Kind::AtMost) {
-            Ok((Rel::Le, self.expect(Kind::AtMost)?))
+            self.rel_of(Kind::AtMost, Rel::Le)
         } else if self.at(Kind::Greater) {
-            Ok((Rel::Gt, self.expect(Kind::Greater)?))
+            self.rel_of(Kind::Greater, Rel::Gt)
         } else {
-            Ok((Rel::Ge, self.expect(Kind::AtLeast)?))
+            self.rel_of(Kind::AtLeast, Rel::Ge)
+        }
+    }
+
+    // The relation of this symbol.
+    fn rel_of(self, symbol: Kind, rel: Rel) -> Result<(Rel, Cursor<'a>), Fault>
+        requires { 2 ≤ code symbol }
+        ensures { Gives result (as_read (λ x. rel) (fixed_read symbol) (seen self.entry)) }
+    {
+        match self.expect(symbol) {
+            Ok(rest) => Ok((rel, rest)),
+            Err(fault) => Err(fault),
         }
     }
 }

@@ -2,7 +2,8 @@
 ghost use Rattle.std.specs.Prelude.{◌≡◌, ◌-◌, length, List, ℕ};
 ghost use Rattle.rast_parse.specs.Cursors.{seen};
 ghost use Rattle.rast_parse.specs.Answer.{Gives, FailsAs};
-ghost use Rattle.rast_forms.specs.Reading.{seq_read};
+ghost use Rattle.rast_forms.specs.Reading.{Done, seq_read};
+ghost use Rattle.rast_ast.specs.declared.term.Term.TheVariants as term_of;
 ghost use Rattle.rast_parse.specs.LinearReading.{term_read, term_by, number_by, group_by, further_read, lin_read, term_limit, sign_read};
 
 use crate::cursor::{Cursor, Fault};
@@ -50,8 +51,10 @@ impl<'a> Cursor<'a> {
         if self.at(Kind::Number) {
             self.number_term(alloc, depth, in_formula)
         } else if self.at(Kind::Name) {
-            let (name, rest) = self.name(alloc)?;
-            Ok((Term::Variable(name), rest))
+            match self.name(alloc) {
+                Ok((name, rest)) => Ok((Term::Variable(name), rest)),
+                Err(fault) => Err(fault),
+            }
         } else {
             self.group(alloc, depth, in_formula)
         }
@@ -66,13 +69,21 @@ impl<'a> Cursor<'a> {
     ) -> Result<(Term, Cursor<'a>), Fault>
         ensures { Gives result (number_by (term_read in_formula depth) (seen self.entry)) }
     {
-        let (number, rest) = self.number()?;
-        if rest.at(Kind::Star) {
-            let rest = rest.expect(Kind::Star)?;
-            let (term, rest) = rest.term(alloc, depth, in_formula)?;
-            Ok((Term::Times(number, Boxed::new(alloc, term)?), rest))
-        } else {
-            Ok((Term::Number(number), rest))
+        match self.number() {
+            Ok((number, rest)) => {
+                if rest.at(Kind::Star) {
+                    match rest.expect(Kind::Star) {
+                        Ok(rest) => match rest.term(alloc, depth, in_formula) {
+                            Ok((term, rest)) => rest.times(alloc, number, term),
+                            Err(fault) => Err(fault),
+                        },
+                        Err(fault) => Err(fault),
+                    }
+                } else {
+                    Ok((Term::Number(number), rest))
+                }
+            }
+            Err(fault) => Err(fault),
         }
     }
 
@@ -85,10 +96,39 @@ impl<'a> Cursor<'a> {
     ) -> Result<(Term, Cursor<'a>), Fault>
         ensures { Gives result (group_by (term_read in_formula depth) (seen self.entry)) }
     {
-        let rest = self.expect(Kind::OpenParen)?;
-        let (sum, rest) = rest.lin(alloc, depth, in_formula)?;
-        let rest = rest.expect(Kind::CloseParen)?;
-        Ok((Term::Group(Boxed::new(alloc, sum)?), rest))
+        match self.expect(Kind::OpenParen) {
+            Ok(rest) => match rest.lin(alloc, depth, in_formula) {
+                Ok((sum, rest)) => match rest.expect(Kind::CloseParen) {
+                    Ok(rest) => rest.grouped_sum(alloc, sum),
+                    Err(fault) => {
+                        drop(sum);
+                        Err(fault)
+                    }
+                },
+                Err(fault) => Err(fault),
+            },
+            Err(fault) => Err(fault),
+        }
+    }
+
+    // The term that this number makes with another, both read.
+    fn times(self, alloc: Global, number: u32, term: Term) -> Result<(Term, Cursor<'a>), Fault>
+        ensures { Gives result (Done (term_of.Times number term) (seen self.entry)) }
+    {
+        match Boxed::new(alloc, term) {
+            Ok(term) => Ok((Term::Times(number, term), self)),
+            Err(_) => Err(Fault::Memory),
+        }
+    }
+
+    // The term that this linear term is in parentheses, all of it read.
+    fn grouped_sum(self, alloc: Global, sum: Lin) -> Result<(Term, Cursor<'a>), Fault>
+        ensures { Gives result (Done (term_of.Group sum) (seen self.entry)) }
+    {
+        match Boxed::new(alloc, sum) {
+            Ok(sum) => Ok((Term::Group(sum), self)),
+            Err(_) => Err(Fault::Memory),
+        }
     }
 
     // A linear term whose terms are below at most `depth` open ones.
@@ -101,16 +141,25 @@ impl<'a> Cursor<'a> {
     ) -> Result<(Lin, Cursor<'a>), Fault>
         ensures { Gives result (lin_read in_formula depth (seen self.entry)) }
     {
-        let (first, rest) = self.term(alloc, depth, in_formula)?;
-        let (further, rest) = rest.further_terms(alloc, depth, in_formula)?;
-        let first = Boxed::new(alloc, first)?;
-        Ok((
-            Lin {
-                first,
-                rest: further,
+        match self.term(alloc, depth, in_formula) {
+            Ok((first, rest)) => match rest.further_terms(alloc, depth, in_formula) {
+                Ok((further, rest)) => {
+                    let first = Boxed::new(alloc, first)?;
+                    Ok((
+                        Lin {
+                            first,
+                            rest: further,
+                        },
+                        rest,
+                    ))
+                }
+                Err(fault) => {
+                    drop(first);
+                    Err(fault)
+                }
             },
-            rest,
-        ))
+            Err(fault) => Err(fault),
+        }
     }
 
     // The further terms, each behind its sign.
@@ -131,8 +180,10 @@ impl<'a> Cursor<'a> {
             }
             match rest.signed_term(alloc, depth, in_formula) {
                 Ok((term, after)) => {
-                    items.push(term)?;
-                    rest = after;
+                    match items.push(term) {
+                        Ok(()) => rest = after,
+                        Err(_) => return Err(Fault::Memory),
+                    }
                 }
                 Err(fault) => return Err(fault),
             }
@@ -149,18 +200,28 @@ impl<'a> Cursor<'a> {
     ) -> Result<((Sign, Term), Cursor<'a>), Fault>
         ensures { Gives result (seq_read sign_read (term_read in_formula depth) (seen self.entry)) }
     {
-        let (sign, rest) = self.sign()?;
-        let (term, rest) = rest.term(alloc, depth, in_formula)?;
-        Ok(((sign, term), rest))
+        match self.sign() {
+            Ok((sign, rest)) => match rest.term(alloc, depth, in_formula) {
+                Ok((term, rest)) => Ok(((sign, term), rest)),
+                Err(fault) => Err(fault),
+            },
+            Err(fault) => Err(fault),
+        }
     }
 
     fn sign(self) -> Result<(Sign, Cursor<'a>), Fault>
         ensures { Gives result (sign_read (seen self.entry)) }
     {
         if self.at(Kind::Plus) {
-            Ok((Sign::Plus, self.expect(Kind::Plus)?))
+            match self.expect(Kind::Plus) {
+                Ok(rest) => Ok((Sign::Plus, rest)),
+                Err(fault) => Err(fault),
+            }
         } else {
-            Ok((Sign::Minus, self.expect(Kind::Minus)?))
+            match self.expect(Kind::Minus) {
+                Ok(rest) => Ok((Sign::Minus, rest)),
+                Err(fault) => Err(fault),
+            }
         }
     }
 }

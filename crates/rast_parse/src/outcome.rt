@@ -86,22 +86,32 @@ impl<'a> Cursor<'a> {
     fn whole_file(self, alloc: Global, depth: usize) -> Result<File, Fault>
         ensures { Ends result (whole_read (file_read depth) (seen self.entry)) }
     {
-        let (file, rest) = self.file(alloc, depth)?;
-        if rest.left() > 0 {
-            return Err(rest.wrong());
+        match self.file(alloc, depth) {
+            Ok((file, rest)) => {
+                if rest.left() > 0 {
+                    drop(file);
+                    return Err(rest.wrong());
+                }
+                Ok(file)
+            }
+            Err(fault) => Err(fault),
         }
-        Ok(file)
     }
 
     // A formula to the last token.
     fn whole_form(self, alloc: Global, depth: usize) -> Result<Form, Fault>
         ensures { Ends result (whole_read (form_read depth) (seen self.entry)) }
     {
-        let (form, rest) = self.form(alloc, depth)?;
-        if rest.left() == 0 {
-            Ok(form)
-        } else {
-            Err(rest.wrong())
+        match self.form(alloc, depth) {
+            Ok((form, rest)) => {
+                if rest.left() == 0 {
+                    Ok(form)
+                } else {
+                    drop(form);
+                    Err(rest.wrong())
+                }
+            }
+            Err(fault) => Err(fault),
         }
     }
 }

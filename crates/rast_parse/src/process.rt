@@ -3,12 +3,12 @@ ghost use Rattle.std.specs.Prelude.{◌≡◌, ◌-◌, ◌&&◌, ◌||◌, true
 ghost use Rattle.rast_parse.specs.Cursors.{seen};
 ghost use Rattle.rast_parse.specs.Answer.{Gives, limit_fault};
 ghost use Rattle.rast_forms.specs.Words.{starts};
-ghost use Rattle.rast_forms.specs.Reading.{seq_read};
+ghost use Rattle.rast_forms.specs.Reading.{Done, choice_read, seq_read};
 ghost use Rattle.rast_ast.specs.declared.kind.Kind.TheVariants as kind;
-ghost use Rattle.rast_parse.specs.LinearReading.{lin_read};
+ghost use Rattle.rast_parse.specs.LinearReading.{is, lin_read};
 ghost use Rattle.rast_parse.specs.FormulaReading.{behind_kind};
 ghost use Rattle.rast_parse.specs.TypeReading.{between_kinds};
-ghost use Rattle.rast_parse.specs.ProcessReading.{branch_by, further_branches, case_by, explicit_first, plain_first, plain_by, statement_by, last_read, proc_by, proc_read};
+ghost use Rattle.rast_parse.specs.ProcessReading.{branch_by, further_branches, case_by, close_read, delay_by, work_by, explicit_first, plain_first, plain_by, statement_by, last_read, proc_by, proc_read};
 
 use crate::cursor::{Cursor, Fault};
 use crate::statement::Statement;
@@ -88,22 +88,31 @@ impl<'a> Cursor<'a> {
         for _turn in 0..self.left() {
             match rest.statement(alloc, depth, explicit) {
                 Ok((statement, after)) => match statement {
-                    Statement::End(end) => {
-                        let end = Boxed::new(alloc, end)?;
-                        return Ok((Proc { steps, end }, after));
-                    }
+                    Statement::End(end) => return after.ended(alloc, steps, end),
                     Statement::Step(step) => {
                         if !after.at(Kind::Semicolon) {
                             return after.last(alloc, steps, step);
                         }
-                        steps.push(step)?;
-                        rest = after.after();
+                        match steps.push(step) {
+                            Ok(()) => rest = after.after(),
+                            Err(_) => return Err(Fault::Memory),
+                        }
                     }
                 },
                 Err(fault) => return Err(fault),
             }
         }
         Err(rest.wrong())
+    }
+
+    // The process term of these steps and this end, all of it read.
+    fn ended(self, alloc: Global, steps: Items<Step>, end: End) -> Result<(Proc, Cursor<'a>), Fault>
+        ensures { Gives result (Done (record { steps = steps; end = end }) (seen self.entry)) }
+    {
+        match Boxed::new(alloc, end) {
+            Ok(end) => Ok((Proc { steps, end }, self)),
+            Err(_) => Err(Fault::Memory),
+        }
     }
 
     // The process term of these steps and one that no `;` follows: a spawn there is a call.
@@ -133,7 +142,11 @@ impl<'a> Cursor<'a> {
                 let end = Boxed::new(alloc, call)?;
                 Ok((Proc { steps, end }, self))
             }
-            _ => Err(self.wrong()),
+            _ => {
+                drop(step);
+                drop(steps);
+                Err(self.wrong())
+            }
         }
     }
 
@@ -171,7 +184,22 @@ impl<'a> Cursor<'a> {
             self.bind(alloc)
         } else if self.at(Kind::Wait) {
             self.wait(alloc)
-        } else if self.at(Kind::Work) {
+        } else {
+            self.other_statement(alloc, depth, explicit)
+        }
+    }
+
+    // One that begins with `work`, `delay`, `close` or `case`.
+    #[cycle(process)]
+    fn other_statement(
+        self,
+        alloc: Global,
+        depth: usize,
+        explicit: bool,
+    ) -> Result<(Statement, Cursor<'a>), Fault>
+        ensures { Gives result (choice_read (is kind.Work) (work_by (lin_read false depth)) (choice_read (is kind.Delay) (delay_by (lin_read false depth)) (choice_read (is kind.Close) close_read (case_by (proc_read explicit depth)))) (seen self.entry)) }
+    {
+        if self.at(Kind::Work) {
             self.work(alloc, depth)
         } else if self.at(Kind::Delay) {
             self.delay(alloc, depth)
@@ -191,15 +219,23 @@ impl<'a> Cursor<'a> {
     ) -> Result<(Statement, Cursor<'a>), Fault>
         ensures { Gives result (case_by (proc_read explicit depth) (seen self.entry)) }
     {
-        let rest = self.expect(Kind::Case)?;
-        let (channel, rest) = rest.name(alloc)?;
-        let ((first, further), rest) = rest.branches(alloc, depth, explicit)?;
-        let case = End::Case {
-            channel,
-            first,
-            rest: further,
-        };
-        Ok((Statement::End(case), rest))
+        match self.expect(Kind::Case) {
+            Ok(rest) => match rest.name(alloc) {
+                Ok((channel, rest)) => match rest.branches(alloc, depth, explicit) {
+                    Ok(((first, further), rest)) => {
+                        let case = End::Case {
+                            channel,
+                            first,
+                            rest: further,
+                        };
+                        Ok((Statement::End(case), rest))
+                    }
+                    Err(fault) => Err(fault),
+                },
+                Err(fault) => Err(fault),
+            },
+            Err(fault) => Err(fault),
+        }
     }
 
     // The branches of a case, in parentheses.
@@ -212,11 +248,42 @@ impl<'a> Cursor<'a> {
     ) -> Result<((Branch, Items<Branch>), Cursor<'a>), Fault>
         ensures { Gives result (between_kinds kind.OpenParen kind.CloseParen (seq_read (branch_by (proc_read explicit depth)) (further_branches (proc_read explicit depth))) (seen self.entry)) }
     {
-        let rest = self.expect(Kind::OpenParen)?;
-        let (first, rest) = rest.branch(alloc, depth, explicit)?;
-        let (further, rest) = rest.further_branches(alloc, depth, explicit)?;
-        let rest = rest.expect(Kind::CloseParen)?;
-        Ok(((first, further), rest))
+        match self.expect(Kind::OpenParen) {
+            Ok(rest) => match rest.all_branches(alloc, depth, explicit) {
+                Ok(((first, further), rest)) => match rest.expect(Kind::CloseParen) {
+                    Ok(rest) => Ok(((first, further), rest)),
+                    Err(fault) => {
+                        drop(first);
+                        drop(further);
+                        Err(fault)
+                    }
+                },
+                Err(fault) => Err(fault),
+            },
+            Err(fault) => Err(fault),
+        }
+    }
+
+    // The branches of a case.
+    #[cycle(process)]
+    fn all_branches(
+        self,
+        alloc: Global,
+        depth: usize,
+        explicit: bool,
+    ) -> Result<((Branch, Items<Branch>), Cursor<'a>), Fault>
+        ensures { Gives result (seq_read (branch_by (proc_read explicit depth)) (further_branches (proc_read explicit depth)) (seen self.entry)) }
+    {
+        match self.branch(alloc, depth, explicit) {
+            Ok((first, rest)) => match rest.further_branches(alloc, depth, explicit) {
+                Ok((further, rest)) => Ok(((first, further), rest)),
+                Err(fault) => {
+                    drop(first);
+                    Err(fault)
+                }
+            },
+            Err(fault) => Err(fault),
+        }
     }
 
     #[cycle(process)]
@@ -228,10 +295,13 @@ impl<'a> Cursor<'a> {
     ) -> Result<(Branch, Cursor<'a>), Fault>
         ensures { Gives result (branch_by (proc_read explicit depth) (seen self.entry)) }
     {
-        let (label, rest) = self.name(alloc)?;
-        let rest = rest.expect(Kind::RightArrow)?;
-        let (body, rest) = rest.proc(alloc, depth, explicit)?;
-        Ok((Branch { label, body }, rest))
+        match self.name_before(alloc, Kind::RightArrow) {
+            Ok((label, rest)) => match rest.proc(alloc, depth, explicit) {
+                Ok((body, rest)) => Ok((Branch { label, body }, rest)),
+                Err(fault) => Err(fault),
+            },
+            Err(fault) => Err(fault),
+        }
     }
 
     // The further branches, each behind its bar.
@@ -252,8 +322,10 @@ impl<'a> Cursor<'a> {
             }
             match rest.further_branch(alloc, depth, explicit) {
                 Ok((branch, after)) => {
-                    items.push(branch)?;
-                    rest = after;
+                    match items.push(branch) {
+                        Ok(()) => rest = after,
+                        Err(_) => return Err(Fault::Memory),
+                    }
                 }
                 Err(fault) => return Err(fault),
             }
@@ -270,7 +342,9 @@ impl<'a> Cursor<'a> {
     ) -> Result<(Branch, Cursor<'a>), Fault>
         ensures { Gives result (behind_kind kind.Bar (branch_by (proc_read explicit depth)) (seen self.entry)) }
     {
-        let rest = self.expect(Kind::Bar)?;
-        rest.branch(alloc, depth, explicit)
+        match self.expect(Kind::Bar) {
+            Ok(rest) => rest.branch(alloc, depth, explicit),
+            Err(fault) => Err(fault),
+        }
     }
 }

@@ -1,16 +1,17 @@
 // References to equations, and the statements of process terms.
-ghost use Rattle.std.specs.Prelude.{◌≡◌, ◌-◌, true, false, length, List, ℕ};
+ghost use Rattle.std.specs.Prelude.{◌≡◌, ◌-◌, ◌≤◌, true, false, length, List, ℕ};
+ghost use Rattle.rast_ast.specs.Kinds.{code};
 ghost use Rattle.rast_parse.specs.Cursors.{seen};
 ghost use Rattle.rast_parse.specs.Answer.{Gives};
 ghost use Rattle.rast_forms.specs.Reading.{seq_read, as_read};
 ghost use Rattle.rast_ast.specs.declared.kind.Kind.TheVariants as kind;
 ghost use Rattle.rast_parse.specs.LinearReading.{lin_read, name_read};
 ghost use Rattle.rast_parse.specs.FormulaReading.{behind_kind};
-ghost use Rattle.rast_parse.specs.TypeReading.{braced_read};
+ghost use Rattle.rast_parse.specs.TypeReading.{args_read, before_kind, braced_read};
 ghost use Rattle.rast_parse.specs.ProcessReading.{names_read, ref_by, further_refs, by_by, optional_by_read, label_by, forward_by, recv_by, spawn_by, arrow_by, after_name, named_statement, sent_by, send_by, bind_read, wait_read, work_by, delay_by, close_read, assert_read, assume_read, pay_read, get_read, impossible_read, explicit_read};
 
 use crate::cursor::{Cursor, Fault};
-use rast_ast::{By, End, Kind, Name, Ref, Step};
+use rast_ast::{By, End, Kind, Lin, Name, Ref, Step};
 use sqlite_items::Items;
 use std::alloc::Global;
 
@@ -34,8 +35,10 @@ impl<'a> Cursor<'a> {
             }
             match rest.name(alloc) {
                 Ok((name, after)) => {
-                    items.push(name)?;
-                    rest = after;
+                    match items.push(name) {
+                        Ok(()) => rest = after,
+                        Err(_) => return Err(Fault::Memory),
+                    }
                 }
                 Err(fault) => return Err(fault),
             }
@@ -48,19 +51,28 @@ impl<'a> Cursor<'a> {
         ensures { Gives result (ref_by (lin_read false depth) (seen self.entry)) }
     {
         if self.at(Kind::Refl) {
-            Ok((Ref::Refl, self.expect(Kind::Refl)?))
+            match self.expect(Kind::Refl) {
+                Ok(rest) => Ok((Ref::Refl, rest)),
+                Err(fault) => Err(fault),
+            }
         } else {
-            let (number, rest) = self.number()?;
-            let (args, rest) = rest.args(alloc, depth)?;
-            Ok((Ref::Equation(number, args), rest))
+            match self.number() {
+                Ok((number, rest)) => match rest.args(alloc, depth) {
+                    Ok((args, rest)) => Ok((Ref::Equation(number, args), rest)),
+                    Err(fault) => Err(fault),
+                },
+                Err(fault) => Err(fault),
+            }
         }
     }
 
     fn further_reference(self, alloc: Global, depth: usize) -> Result<(Ref, Cursor<'a>), Fault>
         ensures { Gives result (behind_kind kind.Comma (ref_by (lin_read false depth)) (seen self.entry)) }
     {
-        let rest = self.expect(Kind::Comma)?;
-        rest.reference(alloc, depth)
+        match self.expect(Kind::Comma) {
+            Ok(rest) => rest.reference(alloc, depth),
+            Err(fault) => Err(fault),
+        }
     }
 
     // The further references, each behind its comma.
@@ -79,8 +91,10 @@ impl<'a> Cursor<'a> {
             }
             match rest.further_reference(alloc, depth) {
                 Ok((reference, after)) => {
-                    items.push(reference)?;
-                    rest = after;
+                    match items.push(reference) {
+                        Ok(()) => rest = after,
+                        Err(_) => return Err(Fault::Memory),
+                    }
                 }
                 Err(fault) => return Err(fault),
             }
@@ -92,16 +106,31 @@ impl<'a> Cursor<'a> {
     fn by(self, alloc: Global, depth: usize) -> Result<(By, Cursor<'a>), Fault>
         ensures { Gives result (by_by (lin_read false depth) (seen self.entry)) }
     {
-        let rest = self.expect(Kind::By)?;
-        let (first, rest) = rest.reference(alloc, depth)?;
-        let (further, rest) = rest.further_references(alloc, depth)?;
-        Ok((
-            By {
-                first,
-                rest: further,
+        match self.reference_behind(alloc, depth) {
+            Ok((first, rest)) => match rest.further_references(alloc, depth) {
+                Ok((further, rest)) => Ok((
+                    By {
+                        first,
+                        rest: further,
+                    },
+                    rest,
+                )),
+                Err(fault) => {
+                    drop(first);
+                    Err(fault)
+                }
             },
-            rest,
-        ))
+            Err(fault) => Err(fault),
+        }
+    }
+
+    fn reference_behind(self, alloc: Global, depth: usize) -> Result<(Ref, Cursor<'a>), Fault>
+        ensures { Gives result (behind_kind kind.By (ref_by (lin_read false depth)) (seen self.entry)) }
+    {
+        match self.expect(Kind::By) {
+            Ok(rest) => rest.reference(alloc, depth),
+            Err(fault) => Err(fault),
+        }
     }
 
     // `by` and its references, if they come and the file is explicit.
@@ -114,8 +143,10 @@ impl<'a> Cursor<'a> {
         ensures { Gives result (optional_by_read explicit (lin_read false depth) (seen self.entry)) }
     {
         if explicit && self.at(Kind::By) {
-            let (by, rest) = self.by(alloc, depth)?;
-            Ok((Some(by), rest))
+            match self.by(alloc, depth) {
+                Ok((by, rest)) => Ok((Some(by), rest)),
+                Err(fault) => Err(fault),
+            }
         } else {
             Ok((None, self))
         }
@@ -130,8 +161,10 @@ impl<'a> Cursor<'a> {
     ) -> Result<(Statement, Cursor<'a>), Fault>
         ensures { Gives result (named_statement explicit (lin_read false depth) (seen self.entry)) }
     {
-        let (channel, rest) = self.name(alloc)?;
-        rest.after_name(alloc, depth, explicit, channel)
+        match self.name(alloc) {
+            Ok((channel, rest)) => rest.after_name(alloc, depth, explicit, channel),
+            Err(fault) => Err(fault),
+        }
     }
 
     fn after_name(
@@ -144,14 +177,17 @@ impl<'a> Cursor<'a> {
         ensures { Gives result (after_name explicit (lin_read false depth) channel (seen self.entry)) }
     {
         if self.at(Kind::Dot) {
-            let rest = self.expect(Kind::Dot)?;
-            let (label, rest) = rest.name(alloc)?;
-            Ok((Statement::Step(Step::Label { channel, label }), rest))
+            match self.name_behind(alloc, Kind::Dot) {
+                Ok((label, rest)) => Ok((Statement::Step(Step::Label { channel, label }), rest)),
+                Err(fault) => Err(fault),
+            }
         } else if self.at(Kind::Forward) {
             self.forward(alloc, depth, explicit, channel)
         } else {
-            let rest = self.expect(Kind::LeftArrow)?;
-            rest.arrow(alloc, depth, explicit, channel)
+            match self.expect(Kind::LeftArrow) {
+                Ok(rest) => rest.arrow(alloc, depth, explicit, channel),
+                Err(fault) => Err(fault),
+            }
         }
     }
 
@@ -164,10 +200,33 @@ impl<'a> Cursor<'a> {
     ) -> Result<(Statement, Cursor<'a>), Fault>
         ensures { Gives result (forward_by explicit (lin_read false depth) channel (seen self.entry)) }
     {
-        let rest = self.expect(Kind::Forward)?;
-        let (other, rest) = rest.name(alloc)?;
-        let (by, rest) = rest.optional_by(alloc, depth, explicit)?;
-        Ok((Statement::End(End::Forward { channel, other, by }), rest))
+        match self.expect(Kind::Forward) {
+            Ok(rest) => match rest.name_and_reason(alloc, depth, explicit) {
+                Ok(((other, by), rest)) => {
+                    Ok((Statement::End(End::Forward { channel, other, by }), rest))
+                }
+                Err(fault) => Err(fault),
+            },
+            Err(fault) => Err(fault),
+        }
+    }
+
+    // A name, and `by` and its references behind it.
+    fn name_and_reason(
+        self,
+        alloc: Global,
+        depth: usize,
+        explicit: bool,
+    ) -> Result<((Name, Option<By>), Cursor<'a>), Fault>
+        ensures { Gives result (seq_read name_read (optional_by_read explicit (lin_read false depth)) (seen self.entry)) }
+    {
+        match self.name(alloc) {
+            Ok((name, rest)) => match rest.optional_by(alloc, depth, explicit) {
+                Ok((by, rest)) => Ok(((name, by), rest)),
+                Err(fault) => Err(fault),
+            },
+            Err(fault) => Err(fault),
+        }
     }
 
     // What stands behind a name and `<-`.
@@ -181,9 +240,10 @@ impl<'a> Cursor<'a> {
         ensures { Gives result (arrow_by explicit (lin_read false depth) bound (seen self.entry)) }
     {
         if self.at(Kind::Recv) {
-            let rest = self.expect(Kind::Recv)?;
-            let (channel, rest) = rest.name(alloc)?;
-            Ok((Statement::Step(Step::Recv { bound, channel }), rest))
+            match self.name_behind(alloc, Kind::Recv) {
+                Ok((channel, rest)) => Ok((Statement::Step(Step::Recv { bound, channel }), rest)),
+                Err(fault) => Err(fault),
+            }
         } else {
             self.spawn(alloc, depth, explicit, bound)
         }
@@ -198,18 +258,58 @@ impl<'a> Cursor<'a> {
     ) -> Result<(Statement, Cursor<'a>), Fault>
         ensures { Gives result (spawn_by explicit (lin_read false depth) bound (seen self.entry)) }
     {
-        let (name, rest) = self.name(alloc)?;
-        let (args, rest) = rest.args(alloc, depth)?;
-        let (used, rest) = rest.names(alloc)?;
-        let (by, rest) = rest.optional_by(alloc, depth, explicit)?;
-        let spawn = Step::Spawn {
-            bound,
-            name,
-            args,
-            used,
-            by,
-        };
-        Ok((Statement::Step(spawn), rest))
+        match self.name(alloc) {
+            Ok((name, rest)) => match rest.operands(alloc, depth, explicit) {
+                Ok(((args, (used, by)), rest)) => {
+                    let spawn = Step::Spawn {
+                        bound,
+                        name,
+                        args,
+                        used,
+                        by,
+                    };
+                    Ok((Statement::Step(spawn), rest))
+                }
+                Err(fault) => Err(fault),
+            },
+            Err(fault) => Err(fault),
+        }
+    }
+
+    // What stands behind the name of a process that is spawned.
+    fn operands(
+        self,
+        alloc: Global,
+        depth: usize,
+        explicit: bool,
+    ) -> Result<((Items<Lin>, (Items<Name>, Option<By>)), Cursor<'a>), Fault>
+        ensures { Gives result (seq_read (args_read (lin_read false depth)) (seq_read names_read (optional_by_read explicit (lin_read false depth))) (seen self.entry)) }
+    {
+        match self.args(alloc, depth) {
+            Ok((args, rest)) => match rest.names_and_reason(alloc, depth, explicit) {
+                Ok((more, rest)) => Ok(((args, more), rest)),
+                Err(fault) => Err(fault),
+            },
+            Err(fault) => Err(fault),
+        }
+    }
+
+    // Any number of names, and `by` and its references behind them.
+    fn names_and_reason(
+        self,
+        alloc: Global,
+        depth: usize,
+        explicit: bool,
+    ) -> Result<((Items<Name>, Option<By>), Cursor<'a>), Fault>
+        ensures { Gives result (seq_read names_read (optional_by_read explicit (lin_read false depth)) (seen self.entry)) }
+    {
+        match self.names(alloc) {
+            Ok((used, rest)) => match rest.optional_by(alloc, depth, explicit) {
+                Ok((by, rest)) => Ok(((used, by), rest)),
+                Err(fault) => Err(fault),
+            },
+            Err(fault) => Err(fault),
+        }
     }
 
     pub fn send(
@@ -220,9 +320,13 @@ impl<'a> Cursor<'a> {
     ) -> Result<(Statement, Cursor<'a>), Fault>
         ensures { Gives result (send_by explicit (lin_read false depth) (seen self.entry)) }
     {
-        let rest = self.expect(Kind::Send)?;
-        let (channel, rest) = rest.name(alloc)?;
-        rest.sent(alloc, depth, explicit, channel)
+        match self.expect(Kind::Send) {
+            Ok(rest) => match rest.name(alloc) {
+                Ok((channel, rest)) => rest.sent(alloc, depth, explicit, channel),
+                Err(fault) => Err(fault),
+            },
+            Err(fault) => Err(fault),
+        }
     }
 
     // What is sent: a channel or an index.
@@ -236,65 +340,123 @@ impl<'a> Cursor<'a> {
         ensures { Gives result (sent_by explicit (lin_read false depth) channel (seen self.entry)) }
     {
         if self.at(Kind::Name) {
-            let (sent, rest) = self.name(alloc)?;
-            let (by, rest) = rest.optional_by(alloc, depth, explicit)?;
-            Ok((Statement::Step(Step::Send { channel, sent, by }), rest))
+            match self.name_and_reason(alloc, depth, explicit) {
+                Ok(((sent, by), rest)) => {
+                    Ok((Statement::Step(Step::Send { channel, sent, by }), rest))
+                }
+                Err(fault) => Err(fault),
+            }
         } else {
-            let (value, rest) = self.braced(alloc, depth)?;
-            Ok((Statement::Step(Step::Index { channel, value }), rest))
+            match self.braced(alloc, depth) {
+                Ok((value, rest)) => Ok((Statement::Step(Step::Index { channel, value }), rest)),
+                Err(fault) => Err(fault),
+            }
         }
     }
 
     pub fn bind(self, alloc: Global) -> Result<(Statement, Cursor<'a>), Fault>
         ensures { Gives result (bind_read (seen self.entry)) }
     {
-        let (bound, rest) = self.braced_name(alloc)?;
-        let rest = rest.expect(Kind::LeftArrow)?;
-        let rest = rest.expect(Kind::Recv)?;
-        let (channel, rest) = rest.name(alloc)?;
-        Ok((Statement::Step(Step::Bind { bound, channel }), rest))
+        match self.braced_name(alloc) {
+            Ok((bound, rest)) => match rest.received(alloc) {
+                Ok((channel, rest)) => Ok((Statement::Step(Step::Bind { bound, channel }), rest)),
+                Err(fault) => Err(fault),
+            },
+            Err(fault) => Err(fault),
+        }
+    }
+
+    // The channel behind `<- recv`.
+    fn received(self, alloc: Global) -> Result<(Name, Cursor<'a>), Fault>
+        ensures { Gives result (behind_kind kind.LeftArrow (behind_kind kind.Recv name_read) (seen self.entry)) }
+    {
+        match self.expect(Kind::LeftArrow) {
+            Ok(rest) => rest.name_behind(alloc, Kind::Recv),
+            Err(fault) => Err(fault),
+        }
+    }
+
+    // A name behind a keyword or symbol.
+    pub fn name_behind(self, alloc: Global, kind: Kind) -> Result<(Name, Cursor<'a>), Fault>
+        requires { 2 ≤ code kind }
+        ensures { Gives result (behind_kind kind name_read (seen self.entry)) }
+    {
+        match self.expect(kind) {
+            Ok(rest) => rest.name(alloc),
+            Err(fault) => Err(fault),
+        }
+    }
+
+    // A name before a keyword or symbol.
+    pub fn name_before(self, alloc: Global, kind: Kind) -> Result<(Name, Cursor<'a>), Fault>
+        requires { 2 ≤ code kind }
+        ensures { Gives result (before_kind kind name_read (seen self.entry)) }
+    {
+        match self.name(alloc) {
+            Ok((name, rest)) => match rest.expect(kind) {
+                Ok(rest) => Ok((name, rest)),
+                Err(fault) => Err(fault),
+            },
+            Err(fault) => Err(fault),
+        }
     }
 
     // A name in braces.
     pub fn braced_name(self, alloc: Global) -> Result<(Name, Cursor<'a>), Fault>
         ensures { Gives result (braced_read name_read (seen self.entry)) }
     {
-        let rest = self.expect(Kind::OpenBrace)?;
-        let (name, rest) = rest.name(alloc)?;
-        let rest = rest.expect(Kind::CloseBrace)?;
-        Ok((name, rest))
+        match self.expect(Kind::OpenBrace) {
+            Ok(rest) => match rest.name(alloc) {
+                Ok((name, rest)) => match rest.expect(Kind::CloseBrace) {
+                    Ok(rest) => Ok((name, rest)),
+                    Err(fault) => Err(fault),
+                },
+                Err(fault) => Err(fault),
+            },
+            Err(fault) => Err(fault),
+        }
     }
 
     pub fn wait(self, alloc: Global) -> Result<(Statement, Cursor<'a>), Fault>
         ensures { Gives result (wait_read (seen self.entry)) }
     {
-        let rest = self.expect(Kind::Wait)?;
-        let (channel, rest) = rest.name(alloc)?;
-        Ok((Statement::Step(Step::Wait(channel)), rest))
+        match self.name_behind(alloc, Kind::Wait) {
+            Ok((channel, rest)) => Ok((Statement::Step(Step::Wait(channel)), rest)),
+            Err(fault) => Err(fault),
+        }
     }
 
     pub fn work(self, alloc: Global, depth: usize) -> Result<(Statement, Cursor<'a>), Fault>
         ensures { Gives result (work_by (lin_read false depth) (seen self.entry)) }
     {
-        let rest = self.expect(Kind::Work)?;
-        let (amount, rest) = rest.braced(alloc, depth)?;
-        Ok((Statement::Step(Step::Work(amount)), rest))
+        match self.expect(Kind::Work) {
+            Ok(rest) => match rest.braced(alloc, depth) {
+                Ok((amount, rest)) => Ok((Statement::Step(Step::Work(amount)), rest)),
+                Err(fault) => Err(fault),
+            },
+            Err(fault) => Err(fault),
+        }
     }
 
     pub fn delay(self, alloc: Global, depth: usize) -> Result<(Statement, Cursor<'a>), Fault>
         ensures { Gives result (delay_by (lin_read false depth) (seen self.entry)) }
     {
-        let rest = self.expect(Kind::Delay)?;
-        let (time, rest) = rest.braced(alloc, depth)?;
-        Ok((Statement::Step(Step::Delay(time)), rest))
+        match self.expect(Kind::Delay) {
+            Ok(rest) => match rest.braced(alloc, depth) {
+                Ok((time, rest)) => Ok((Statement::Step(Step::Delay(time)), rest)),
+                Err(fault) => Err(fault),
+            },
+            Err(fault) => Err(fault),
+        }
     }
 
     pub fn close(self, alloc: Global) -> Result<(Statement, Cursor<'a>), Fault>
         ensures { Gives result (close_read (seen self.entry)) }
     {
-        let rest = self.expect(Kind::Close)?;
-        let (channel, rest) = rest.name(alloc)?;
-        Ok((Statement::End(End::Close(channel)), rest))
+        match self.name_behind(alloc, Kind::Close) {
+            Ok((channel, rest)) => Ok((Statement::End(End::Close(channel)), rest)),
+            Err(fault) => Err(fault),
+        }
     }
 
     // A statement that only an explicit file has.
@@ -310,40 +472,46 @@ impl<'a> Cursor<'a> {
         } else if self.at(Kind::Get) {
             self.get(alloc)
         } else {
-            let rest = self.expect(Kind::Impossible)?;
-            Ok((Statement::End(End::Impossible), rest))
+            match self.expect(Kind::Impossible) {
+                Ok(rest) => Ok((Statement::End(End::Impossible), rest)),
+                Err(fault) => Err(fault),
+            }
         }
     }
 
     fn assertion(self, alloc: Global) -> Result<(Statement, Cursor<'a>), Fault>
         ensures { Gives result (assert_read (seen self.entry)) }
     {
-        let rest = self.expect(Kind::Assert)?;
-        let (channel, rest) = rest.name(alloc)?;
-        Ok((Statement::Step(Step::Assert(channel)), rest))
+        match self.name_behind(alloc, Kind::Assert) {
+            Ok((channel, rest)) => Ok((Statement::Step(Step::Assert(channel)), rest)),
+            Err(fault) => Err(fault),
+        }
     }
 
     fn assumption(self, alloc: Global) -> Result<(Statement, Cursor<'a>), Fault>
         ensures { Gives result (assume_read (seen self.entry)) }
     {
-        let rest = self.expect(Kind::Assume)?;
-        let (channel, rest) = rest.name(alloc)?;
-        Ok((Statement::Step(Step::Assume(channel)), rest))
+        match self.name_behind(alloc, Kind::Assume) {
+            Ok((channel, rest)) => Ok((Statement::Step(Step::Assume(channel)), rest)),
+            Err(fault) => Err(fault),
+        }
     }
 
     fn pay(self, alloc: Global) -> Result<(Statement, Cursor<'a>), Fault>
         ensures { Gives result (pay_read (seen self.entry)) }
     {
-        let rest = self.expect(Kind::Pay)?;
-        let (channel, rest) = rest.name(alloc)?;
-        Ok((Statement::Step(Step::Pay(channel)), rest))
+        match self.name_behind(alloc, Kind::Pay) {
+            Ok((channel, rest)) => Ok((Statement::Step(Step::Pay(channel)), rest)),
+            Err(fault) => Err(fault),
+        }
     }
 
     fn get(self, alloc: Global) -> Result<(Statement, Cursor<'a>), Fault>
         ensures { Gives result (get_read (seen self.entry)) }
     {
-        let rest = self.expect(Kind::Get)?;
-        let (channel, rest) = rest.name(alloc)?;
-        Ok((Statement::Step(Step::Get(channel)), rest))
+        match self.name_behind(alloc, Kind::Get) {
+            Ok((channel, rest)) => Ok((Statement::Step(Step::Get(channel)), rest)),
+            Err(fault) => Err(fault),
+        }
     }
 }

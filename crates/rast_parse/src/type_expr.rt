@@ -1,12 +1,13 @@
 // Types.
-ghost use Rattle.std.specs.Prelude.{◌≡◌, ◌-◌, true, false, length, List, ℕ};
+ghost use Rattle.std.specs.Prelude.{◌≡◌, ◌-◌, ◌≤◌, true, false, length, List, ℕ};
+ghost use Rattle.rast_ast.specs.Kinds.{code};
 ghost use Rattle.rast_parse.specs.Cursors.{seen};
 ghost use Rattle.rast_parse.specs.Answer.{Gives, Passes, limit_fault};
 ghost use Rattle.rast_forms.specs.Reading.{seq_read, as_read};
 ghost use Rattle.rast_ast.specs.declared.kind.Kind.TheVariants as kind;
 ghost use Rattle.rast_parse.specs.LinearReading.{lin_read};
 ghost use Rattle.rast_parse.specs.FormulaReading.{behind_kind, form_read};
-ghost use Rattle.rast_parse.specs.TypeReading.{braced_read, args_read, exists_by, all_by, pays_by, gets_by, prefix_by, labelled_by, further_labelled, choice_by, one_read_1, unit_read, plus_by, with_by, named_by, atom_by, after_by, prefixed_by, next_one_by, next_by, group_type_by, inside_by, type_by, begins_type, type_read};
+ghost use Rattle.rast_parse.specs.TypeReading.{before_kind, braced_read, args_read, exists_by, all_by, pays_by, gets_by, prefix_by, labelled_by, further_labelled, choice_by, one_read_1, unit_read, plus_by, with_by, named_by, atom_by, after_by, prefixed_by, next_one_by, next_by, group_type_by, inside_by, type_by, begins_type, type_read};
 
 use crate::cursor::{Cursor, Fault};
 use rast_ast::{Atom, Choice, Form, Kind, Lin, Name, Prefix, TypeExpr};
@@ -63,11 +64,15 @@ impl<'a> Cursor<'a> {
         if self.at_any(&[Kind::Question, Kind::Exclamation, Kind::Bar, Kind::Less]) {
             self.prefixed(alloc, depth)
         } else if self.at(Kind::OpenParen) {
-            let rest = self.expect(Kind::OpenParen)?;
-            rest.inside(alloc, depth)
+            match self.expect(Kind::OpenParen) {
+                Ok(rest) => rest.inside(alloc, depth),
+                Err(fault) => Err(fault),
+            }
         } else {
-            let (atom, rest) = self.atom(alloc, depth)?;
-            rest.after_atom(alloc, depth, atom)
+            match self.atom(alloc, depth) {
+                Ok((atom, rest)) => rest.after_atom(alloc, depth, atom),
+                Err(fault) => Err(fault),
+            }
         }
     }
 
@@ -75,9 +80,27 @@ impl<'a> Cursor<'a> {
     fn prefixed(self, alloc: Global, depth: usize) -> Result<(TypeExpr, Cursor<'a>), Fault>
         ensures { Gives result (prefixed_by (lin_read false depth) (form_read depth) (type_read depth) (seen self.entry)) }
     {
-        let (prefix, rest) = self.prefix(alloc, depth)?;
-        let (body, rest) = rest.type_expr(alloc, depth)?;
-        Ok((TypeExpr::Prefixed(prefix, Boxed::new(alloc, body)?), rest))
+        match self.prefix(alloc, depth) {
+            Ok((prefix, rest)) => match rest.boxed_type(alloc, depth) {
+                Ok((body, rest)) => Ok((TypeExpr::Prefixed(prefix, body), rest)),
+                Err(fault) => {
+                    drop(prefix);
+                    Err(fault)
+                }
+            },
+            Err(fault) => Err(fault),
+        }
+    }
+
+    // A type, on the heap.
+    #[cycle(type_expr)]
+    fn boxed_type(self, alloc: Global, depth: usize) -> Result<(Boxed<TypeExpr>, Cursor<'a>), Fault>
+        ensures { Gives result (type_read depth (seen self.entry)) }
+    {
+        match self.type_expr(alloc, depth) {
+            Ok((body, rest)) => Ok((Boxed::new(alloc, body)?, rest)),
+            Err(fault) => Err(fault),
+        }
     }
 
     // A prefix that no parenthesis begins.
@@ -98,69 +121,135 @@ impl<'a> Cursor<'a> {
     fn exists(self, alloc: Global, depth: usize) -> Result<(Prefix, Cursor<'a>), Fault>
         ensures { Gives result (exists_by (form_read depth) (seen self.entry)) }
     {
-        let rest = self.expect(Kind::Question)?;
-        if rest.at(Kind::Name) {
-            let (name, rest) = rest.name(alloc)?;
-            let rest = rest.expect(Kind::Dot)?;
-            Ok((Prefix::Ex(name), rest))
-        } else {
-            let (form, rest) = rest.braced_form(alloc, depth)?;
-            let rest = rest.expect(Kind::Dot)?;
-            Ok((Prefix::Assert(form), rest))
+        match self.expect(Kind::Question) {
+            Ok(rest) => {
+                if rest.at(Kind::Name) {
+                    match rest.name(alloc) {
+                        Ok((name, rest)) => match rest.expect(Kind::Dot) {
+                            Ok(rest) => Ok((Prefix::Ex(name), rest)),
+                            Err(fault) => Err(fault),
+                        },
+                        Err(fault) => Err(fault),
+                    }
+                } else {
+                    match rest.braced_form(alloc, depth) {
+                        Ok((form, rest)) => match rest.expect(Kind::Dot) {
+                            Ok(rest) => Ok((Prefix::Assert(form), rest)),
+                            Err(fault) => {
+                                drop(form);
+                                Err(fault)
+                            }
+                        },
+                        Err(fault) => Err(fault),
+                    }
+                }
+            }
+            Err(fault) => Err(fault),
         }
     }
 
     fn all(self, alloc: Global, depth: usize) -> Result<(Prefix, Cursor<'a>), Fault>
         ensures { Gives result (all_by (form_read depth) (seen self.entry)) }
     {
-        let rest = self.expect(Kind::Exclamation)?;
-        if rest.at(Kind::Name) {
-            let (name, rest) = rest.name(alloc)?;
-            let rest = rest.expect(Kind::Dot)?;
-            Ok((Prefix::All(name), rest))
-        } else {
-            let (form, rest) = rest.braced_form(alloc, depth)?;
-            let rest = rest.expect(Kind::Dot)?;
-            Ok((Prefix::Assume(form), rest))
+        match self.expect(Kind::Exclamation) {
+            Ok(rest) => {
+                if rest.at(Kind::Name) {
+                    match rest.name(alloc) {
+                        Ok((name, rest)) => match rest.expect(Kind::Dot) {
+                            Ok(rest) => Ok((Prefix::All(name), rest)),
+                            Err(fault) => Err(fault),
+                        },
+                        Err(fault) => Err(fault),
+                    }
+                } else {
+                    match rest.braced_form(alloc, depth) {
+                        Ok((form, rest)) => match rest.expect(Kind::Dot) {
+                            Ok(rest) => Ok((Prefix::Assume(form), rest)),
+                            Err(fault) => {
+                                drop(form);
+                                Err(fault)
+                            }
+                        },
+                        Err(fault) => Err(fault),
+                    }
+                }
+            }
+            Err(fault) => Err(fault),
         }
     }
 
     fn pays(self, alloc: Global, depth: usize) -> Result<(Prefix, Cursor<'a>), Fault>
         ensures { Gives result (pays_by (lin_read false depth) (seen self.entry)) }
     {
-        let rest = self.expect(Kind::Bar)?;
-        let (sum, rest) = rest.braced(alloc, depth)?;
-        let rest = rest.expect(Kind::Greater)?;
-        Ok((Prefix::Pays(sum), rest))
+        match self.expect(Kind::Bar) {
+            Ok(rest) => match rest.braced(alloc, depth) {
+                Ok((sum, rest)) => match rest.expect(Kind::Greater) {
+                    Ok(rest) => Ok((Prefix::Pays(sum), rest)),
+                    Err(fault) => {
+                        drop(sum);
+                        Err(fault)
+                    }
+                },
+                Err(fault) => Err(fault),
+            },
+            Err(fault) => Err(fault),
+        }
     }
 
     fn gets(self, alloc: Global, depth: usize) -> Result<(Prefix, Cursor<'a>), Fault>
         ensures { Gives result (gets_by (lin_read false depth) (seen self.entry)) }
     {
-        let rest = self.expect(Kind::Less)?;
-        let (sum, rest) = rest.braced(alloc, depth)?;
-        let rest = rest.expect(Kind::Bar)?;
-        Ok((Prefix::Gets(sum), rest))
+        match self.expect(Kind::Less) {
+            Ok(rest) => match rest.braced(alloc, depth) {
+                Ok((sum, rest)) => match rest.expect(Kind::Bar) {
+                    Ok(rest) => Ok((Prefix::Gets(sum), rest)),
+                    Err(fault) => {
+                        drop(sum);
+                        Err(fault)
+                    }
+                },
+                Err(fault) => Err(fault),
+            },
+            Err(fault) => Err(fault),
+        }
     }
 
     // A linear term in braces.
     pub fn braced(self, alloc: Global, depth: usize) -> Result<(Lin, Cursor<'a>), Fault>
         ensures { Gives result (braced_read (lin_read false depth) (seen self.entry)) }
     {
-        let rest = self.expect(Kind::OpenBrace)?;
-        let (sum, rest) = rest.lin(alloc, depth, false)?;
-        let rest = rest.expect(Kind::CloseBrace)?;
-        Ok((sum, rest))
+        match self.expect(Kind::OpenBrace) {
+            Ok(rest) => match rest.lin(alloc, depth, false) {
+                Ok((sum, rest)) => match rest.expect(Kind::CloseBrace) {
+                    Ok(rest) => Ok((sum, rest)),
+                    Err(fault) => {
+                        drop(sum);
+                        Err(fault)
+                    }
+                },
+                Err(fault) => Err(fault),
+            },
+            Err(fault) => Err(fault),
+        }
     }
 
     // A formula in braces.
     fn braced_form(self, alloc: Global, depth: usize) -> Result<(Form, Cursor<'a>), Fault>
         ensures { Gives result (braced_read (form_read depth) (seen self.entry)) }
     {
-        let rest = self.expect(Kind::OpenBrace)?;
-        let (form, rest) = rest.form(alloc, depth)?;
-        let rest = rest.expect(Kind::CloseBrace)?;
-        Ok((form, rest))
+        match self.expect(Kind::OpenBrace) {
+            Ok(rest) => match rest.form(alloc, depth) {
+                Ok((form, rest)) => match rest.expect(Kind::CloseBrace) {
+                    Ok(rest) => Ok((form, rest)),
+                    Err(fault) => {
+                        drop(form);
+                        Err(fault)
+                    }
+                },
+                Err(fault) => Err(fault),
+            },
+            Err(fault) => Err(fault),
+        }
     }
 
     // The arguments behind a name, each in braces.
@@ -175,8 +264,10 @@ impl<'a> Cursor<'a> {
             }
             match rest.braced(alloc, depth) {
                 Ok((sum, after)) => {
-                    items.push(sum)?;
-                    rest = after;
+                    match items.push(sum) {
+                        Ok(()) => rest = after,
+                        Err(_) => return Err(Fault::Memory),
+                    }
                 }
                 Err(fault) => return Err(fault),
             }
@@ -202,35 +293,61 @@ impl<'a> Cursor<'a> {
     fn next_one(self, alloc: Global, depth: usize) -> Result<(TypeExpr, Cursor<'a>), Fault>
         ensures { Gives result (next_one_by (type_read depth) (seen self.entry)) }
     {
-        let rest = self.expect(Kind::CloseParen)?;
-        let (body, rest) = rest.type_expr(alloc, depth)?;
-        Ok((
-            TypeExpr::Prefixed(Prefix::NextOne, Boxed::new(alloc, body)?),
-            rest,
-        ))
+        match self.type_behind(alloc, depth, Kind::CloseParen) {
+            Ok((body, rest)) => Ok((TypeExpr::Prefixed(Prefix::NextOne, body), rest)),
+            Err(fault) => Err(fault),
+        }
     }
 
     #[cycle(type_expr)]
     fn next(self, alloc: Global, depth: usize) -> Result<(TypeExpr, Cursor<'a>), Fault>
         ensures { Gives result (next_by (lin_read false depth) (type_read depth) (seen self.entry)) }
     {
-        let (time, rest) = self.braced(alloc, depth)?;
-        let rest = rest.expect(Kind::CloseParen)?;
-        let (body, rest) = rest.type_expr(alloc, depth)?;
-        Ok((
-            TypeExpr::Prefixed(Prefix::Next(time), Boxed::new(alloc, body)?),
-            rest,
-        ))
+        match self.time(alloc, depth) {
+            Ok((time, rest)) => match rest.boxed_type(alloc, depth) {
+                Ok((body, rest)) => Ok((TypeExpr::Prefixed(Prefix::Next(time), body), rest)),
+                Err(fault) => {
+                    drop(time);
+                    Err(fault)
+                }
+            },
+            Err(fault) => Err(fault),
+        }
+    }
+
+    // A linear term in braces, and the closing parenthesis behind it.
+    fn time(self, alloc: Global, depth: usize) -> Result<(Lin, Cursor<'a>), Fault>
+        ensures { Gives result (before_kind kind.CloseParen (braced_read (lin_read false depth)) (seen self.entry)) }
+    {
+        match self.braced(alloc, depth) {
+            Ok((sum, rest)) => match rest.expect(Kind::CloseParen) {
+                Ok(rest) => Ok((sum, rest)),
+                Err(fault) => {
+                    drop(sum);
+                    Err(fault)
+                }
+            },
+            Err(fault) => Err(fault),
+        }
     }
 
     #[cycle(type_expr)]
     fn group_type(self, alloc: Global, depth: usize) -> Result<(TypeExpr, Cursor<'a>), Fault>
         ensures { Gives result (group_type_by (type_read depth) (seen self.entry)) }
     {
-        let (inner, rest) = self.type_expr(alloc, depth)?;
-        let rest = rest.expect(Kind::CloseParen)?;
-        let inner = Boxed::new(alloc, inner)?;
-        rest.after_atom(alloc, depth, Atom::Group(inner))
+        match self.type_expr(alloc, depth) {
+            Ok((inner, rest)) => match rest.expect(Kind::CloseParen) {
+                Ok(rest) => {
+                    let inner = Boxed::new(alloc, inner)?;
+                    rest.after_atom(alloc, depth, Atom::Group(inner))
+                }
+                Err(fault) => {
+                    drop(inner);
+                    Err(fault)
+                }
+            },
+            Err(fault) => Err(fault),
+        }
     }
 
     // The type that an atom begins, from what follows the atom.
@@ -244,15 +361,40 @@ impl<'a> Cursor<'a> {
         ensures { Gives result (after_by (type_read depth) atom (seen self.entry)) }
     {
         if self.at(Kind::Star) {
-            let rest = self.expect(Kind::Star)?;
-            let (body, rest) = rest.type_expr(alloc, depth)?;
-            Ok((TypeExpr::Tensor(atom, Boxed::new(alloc, body)?), rest))
+            match self.type_behind(alloc, depth, Kind::Star) {
+                Ok((body, rest)) => Ok((TypeExpr::Tensor(atom, body), rest)),
+                Err(fault) => {
+                    drop(atom);
+                    Err(fault)
+                }
+            }
         } else if self.at(Kind::Lolli) {
-            let rest = self.expect(Kind::Lolli)?;
-            let (body, rest) = rest.type_expr(alloc, depth)?;
-            Ok((TypeExpr::Lolli(atom, Boxed::new(alloc, body)?), rest))
+            match self.type_behind(alloc, depth, Kind::Lolli) {
+                Ok((body, rest)) => Ok((TypeExpr::Lolli(atom, body), rest)),
+                Err(fault) => {
+                    drop(atom);
+                    Err(fault)
+                }
+            }
         } else {
             Ok((TypeExpr::Atom(atom), self))
+        }
+    }
+
+    // A type behind a symbol, on the heap.
+    #[cycle(type_expr)]
+    fn type_behind(
+        self,
+        alloc: Global,
+        depth: usize,
+        symbol: Kind,
+    ) -> Result<(Boxed<TypeExpr>, Cursor<'a>), Fault>
+        requires { 2 ≤ code symbol }
+        ensures { Gives result (behind_kind symbol (type_read depth) (seen self.entry)) }
+    {
+        match self.expect(symbol) {
+            Ok(rest) => rest.boxed_type(alloc, depth),
+            Err(fault) => Err(fault),
         }
     }
 
@@ -262,8 +404,10 @@ impl<'a> Cursor<'a> {
         ensures { Gives result (atom_by (lin_read false depth) (type_read depth) (seen self.entry)) }
     {
         if self.at(Kind::Number) {
-            let rest = self.one()?;
-            Ok((Atom::One, rest))
+            match self.one() {
+                Ok(rest) => Ok((Atom::One, rest)),
+                Err(fault) => Err(fault),
+            }
         } else if self.at(Kind::Plus) {
             self.internal_choice(alloc, depth)
         } else if self.at(Kind::Ampersand) {
@@ -293,36 +437,57 @@ impl<'a> Cursor<'a> {
     fn internal_choice(self, alloc: Global, depth: usize) -> Result<(Atom, Cursor<'a>), Fault>
         ensures { Gives result (plus_by (type_read depth) (seen self.entry)) }
     {
-        let rest = self.expect(Kind::Plus)?;
-        let (choice, rest) = rest.braced_choice(alloc, depth)?;
-        Ok((Atom::Plus(Boxed::new(alloc, choice)?), rest))
+        match self.expect(Kind::Plus) {
+            Ok(rest) => match rest.braced_choice(alloc, depth) {
+                Ok((choice, rest)) => Ok((Atom::Plus(Boxed::new(alloc, choice)?), rest)),
+                Err(fault) => Err(fault),
+            },
+            Err(fault) => Err(fault),
+        }
     }
 
     #[cycle(type_expr)]
     fn external_choice(self, alloc: Global, depth: usize) -> Result<(Atom, Cursor<'a>), Fault>
         ensures { Gives result (with_by (type_read depth) (seen self.entry)) }
     {
-        let rest = self.expect(Kind::Ampersand)?;
-        let (choice, rest) = rest.braced_choice(alloc, depth)?;
-        Ok((Atom::With(Boxed::new(alloc, choice)?), rest))
+        match self.expect(Kind::Ampersand) {
+            Ok(rest) => match rest.braced_choice(alloc, depth) {
+                Ok((choice, rest)) => Ok((Atom::With(Boxed::new(alloc, choice)?), rest)),
+                Err(fault) => Err(fault),
+            },
+            Err(fault) => Err(fault),
+        }
     }
 
     #[cycle(type_expr)]
     fn braced_choice(self, alloc: Global, depth: usize) -> Result<(Choice, Cursor<'a>), Fault>
         ensures { Gives result (braced_read (choice_by (type_read depth)) (seen self.entry)) }
     {
-        let rest = self.expect(Kind::OpenBrace)?;
-        let (choice, rest) = rest.choice(alloc, depth)?;
-        let rest = rest.expect(Kind::CloseBrace)?;
-        Ok((choice, rest))
+        match self.expect(Kind::OpenBrace) {
+            Ok(rest) => match rest.choice(alloc, depth) {
+                Ok((choice, rest)) => match rest.expect(Kind::CloseBrace) {
+                    Ok(rest) => Ok((choice, rest)),
+                    Err(fault) => {
+                        drop(choice);
+                        Err(fault)
+                    }
+                },
+                Err(fault) => Err(fault),
+            },
+            Err(fault) => Err(fault),
+        }
     }
 
     fn named(self, alloc: Global, depth: usize) -> Result<(Atom, Cursor<'a>), Fault>
         ensures { Gives result (named_by (lin_read false depth) (seen self.entry)) }
     {
-        let (name, rest) = self.name(alloc)?;
-        let (args, rest) = rest.args(alloc, depth)?;
-        Ok((Atom::Named(name, args), rest))
+        match self.name(alloc) {
+            Ok((name, rest)) => match rest.args(alloc, depth) {
+                Ok((args, rest)) => Ok((Atom::Named(name, args), rest)),
+                Err(fault) => Err(fault),
+            },
+            Err(fault) => Err(fault),
+        }
     }
 
     // Labels, each with its type.
@@ -330,26 +495,40 @@ impl<'a> Cursor<'a> {
     fn choice(self, alloc: Global, depth: usize) -> Result<(Choice, Cursor<'a>), Fault>
         ensures { Gives result (choice_by (type_read depth) (seen self.entry)) }
     {
-        let ((label, body), rest) = self.labelled(alloc, depth)?;
-        let (further, rest) = rest.further_labelled(alloc, depth)?;
-        Ok((
-            Choice {
-                label,
-                body,
-                rest: further,
+        match self.labelled(alloc, depth) {
+            Ok(((label, body), rest)) => match rest.further_labelled(alloc, depth) {
+                Ok((further, rest)) => Ok((
+                    Choice {
+                        label,
+                        body,
+                        rest: further,
+                    },
+                    rest,
+                )),
+                Err(fault) => {
+                    drop(body);
+                    Err(fault)
+                }
             },
-            rest,
-        ))
+            Err(fault) => Err(fault),
+        }
     }
 
     #[cycle(type_expr)]
-    fn labelled(self, alloc: Global, depth: usize) -> Result<((Name, TypeExpr), Cursor<'a>), Fault>
+    pub fn labelled(
+        self,
+        alloc: Global,
+        depth: usize,
+    ) -> Result<((Name, TypeExpr), Cursor<'a>), Fault>
         ensures { Gives result (labelled_by (type_read depth) (seen self.entry)) }
     {
-        let (label, rest) = self.name(alloc)?;
-        let rest = rest.expect(Kind::Colon)?;
-        let (body, rest) = rest.type_expr(alloc, depth)?;
-        Ok(((label, body), rest))
+        match self.name_before(alloc, Kind::Colon) {
+            Ok((label, rest)) => match rest.type_expr(alloc, depth) {
+                Ok((body, rest)) => Ok(((label, body), rest)),
+                Err(fault) => Err(fault),
+            },
+            Err(fault) => Err(fault),
+        }
     }
 
     // The further labels, each behind its comma.
@@ -369,8 +548,10 @@ impl<'a> Cursor<'a> {
             }
             match rest.labelled_behind(alloc, depth) {
                 Ok((labelled, after)) => {
-                    items.push(labelled)?;
-                    rest = after;
+                    match items.push(labelled) {
+                        Ok(()) => rest = after,
+                        Err(_) => return Err(Fault::Memory),
+                    }
                 }
                 Err(fault) => return Err(fault),
             }
@@ -386,7 +567,9 @@ impl<'a> Cursor<'a> {
     ) -> Result<((Name, TypeExpr), Cursor<'a>), Fault>
         ensures { Gives result (behind_kind kind.Comma (labelled_by (type_read depth)) (seen self.entry)) }
     {
-        let rest = self.expect(Kind::Comma)?;
-        rest.labelled(alloc, depth)
+        match self.expect(Kind::Comma) {
+            Ok(rest) => rest.labelled(alloc, depth),
+            Err(fault) => Err(fault),
+        }
     }
 }

@@ -1,5 +1,5 @@
 -- A value is printed item by item.
-use Rattle.std.proofs.Common.{◌≡◌, ℕ, zero, suc, ◌+◌, ◌-◌, ◌<◌, ◌≤◌, true, ◌&&◌, List, [], ◌∷◌, ◌++◌, Option, Some, None, length, get_or, drop, sym, ◌∙◌, ap, ap₂, refl, arith, add-one, append_assoc, codes, subst}
+use Rattle.std.proofs.Common.{◌≡◌, ℕ, zero, suc, ◌+◌, ◌-◌, ◌<◌, ◌≤◌, true, List, [], ◌∷◌, ◌++◌, Option, Some, None, length, get_or, drop, sym, ◌∙◌, ap, ap₂, refl, arith, add-one, append_assoc, codes, subst}
 use Rattle.std.proofs.lemmas.List.{drop_all}
 use Rattle.std.proofs.Math.Seq.{drop-cons}
 use Rattle.rast_terms.specs.declared.program.Program.{Program}
@@ -9,6 +9,9 @@ use Rattle.rast_items.specs.Links.{same_link}
 use Rattle.rast_terms.specs.Texts.{Text}
 use Rattle.rast_report.specs.Values.{value_from, message_text, is_client}
 use Rattle.rast_report.specs.Waiting.{waiting_text, behind}
+use Rattle.rast_report.specs.Providers.{place_on, jump, FindsAll}
+use Rattle.rast_report.specs.declared.providers.Providers.{Providers}
+use Rattle.rast_report.proofs.Places.{value_jumps}
 use Rattle.rast_report.specs.Turns.{value_at, all_text, triple, weight, load, Advances, Goes, TurnsAt, GoesBack}
 use Rattle.rast_report.specs.declared.printing.Waiting.{Waiting}
 use Rattle.rast_report.specs.declared.printing.Turn.{Turn}
@@ -35,6 +38,18 @@ weight_more n (x ∷ ws) w = let h : weight n (ws ++ w ∷ []) ≡ weight n ws +
 pub triple_less : (n p : ℕ) → p < n → triple (n - p) ≡ triple (n - (p + 1)) + (triple (n - (p + 1)) + triple (n - (p + 1)))
 triple_less n p h = let e : n - p ≡ suc (n - (p + 1)) = omega (arith, h) in ap triple e
 
+pub triple_sum : (d k : ℕ) → triple k ≤ triple (d + k)
+triple_sum zero k = let z : 0 + k ≡ k = omega arith in let e : triple (0 + k) ≡ triple k = ap triple z in omega (arith, e)
+triple_sum (suc d) k =
+    let z : suc d + k ≡ suc (d + k) = omega arith in
+    let e : triple (suc d + k) ≡ triple (d + k) + (triple (d + k) + triple (d + k)) = ap triple z in
+    let h : triple k ≤ triple (d + k) = triple_sum d k in
+    omega (arith, h, e)
+
+-- more items, and more is left
+pub triple_more : (j k : ℕ) → j ≤ k → triple j ≤ triple k
+triple_more j k h = let e : k - j + j ≡ k = omega (arith, h) in subst (λ (n : ℕ). triple j ≤ triple n) e (triple_sum (k - j) j)
+
 -- ---- texts that wait
 
 module _ (g : Program) (v : Shown) where
@@ -46,26 +61,23 @@ module _ (g : Program) (v : Shown) where
   pub written : (old new wrote all more : Text) → new ≡ old ++ wrote → all ≡ wrote ++ more → new ++ more ≡ old ++ all
   written old new wrote all more n e = ap (λ (t : Text). t ++ more) n ∙ append_assoc old wrote more ∙ ap (λ (t : Text). old ++ t) (sym e)
 
-  -- the value goes on at a link behind the place
-  pub goes_next : (old new wrote : Text) (p : ℕ) (l k : Link) (ws : List Waiting) → new ≡ old ++ wrote → value_at g v (at_place l p) ≡ wrote ++ value_at g v (at_place k (p + 1)) →
-      all_text g v new (at_place k (p + 1)) ws ≡ all_text g v old (at_place l p) ws
-  goes_next old new wrote p l k ws n e = ap (λ (t : Text). t ++ waiting_text g v ws) (written old new wrote (value_at g v (at_place l p)) (value_at g v (at_place k (p + 1))) n e)
+  -- the value goes on behind the place
+  pub goes_next : (old new wrote : Text) (p : ℕ) (l : Link) (w : Waiting) (ws : List Waiting) → new ≡ old ++ wrote → value_at g v (at_place l p) ≡ wrote ++ value_at g v w → all_text g v new w ws ≡ all_text g v old (at_place l p) ws
+  goes_next old new wrote p l w ws n e = ap (λ (t : Text). t ++ waiting_text g v ws) (written old new wrote (value_at g v (at_place l p)) (value_at g v w) n e)
 
-  pub goes_on : (old new : Text) (p : ℕ) (l : Link) (ws : List Waiting) → new ≡ old → value_at g v (at_place l p) ≡ value_at g v (at_place l (p + 1)) →
-      all_text g v new (at_place l (p + 1)) ws ≡ all_text g v old (at_place l p) ws
-  goes_on old new p l ws n e = ap₂ (λ (s t : Text). (s ++ t) ++ waiting_text g v ws) n (sym e)
+  pub goes_on : (old new : Text) (p : ℕ) (l : Link) (w : Waiting) (ws : List Waiting) → new ≡ old → value_at g v (at_place l p) ≡ value_at g v w → all_text g v new w ws ≡ all_text g v old (at_place l p) ws
+  goes_on old new p l w ws n e = ap₂ (λ (s t : Text). (s ++ t) ++ waiting_text g v ws) n (sym e)
 
   -- a sent channel's value comes first
-  pub goes_in : (old new wrote : Text) (p : ℕ) (l k next : Link) (ws : List Waiting) → new ≡ old ++ wrote →
-      value_at g v (at_place l p) ≡ wrote ++ (value_at g v (at_place k (p + 1)) ++ behind g v (at_place next (p + 1))) →
-      all_text g v new (at_place k (p + 1)) (ws ++ at_place next (p + 1) ∷ []) ≡ all_text g v old (at_place l p) ws
-  goes_in old new wrote p l k next ws n e =
-      let b = behind g v (at_place next (p + 1)) in
-      let x = value_at g v (at_place k (p + 1)) in
-      let w = waiting_text g v ws in
-      ap (λ (t : Text). (new ++ x) ++ t) (waits_more ws (at_place next (p + 1)))
-      ∙ sym (append_assoc (new ++ x) b w)
-      ∙ ap (λ (t : Text). t ++ w) (append_assoc new x b ∙ written old new wrote (value_at g v (at_place l p)) (x ++ b) n e)
+  pub goes_in : (old new wrote : Text) (p : ℕ) (l : Link) (f w : Waiting) (ws : List Waiting) → new ≡ old ++ wrote → value_at g v (at_place l p) ≡ wrote ++ (value_at g v w ++ behind g v f) →
+      all_text g v new w (ws ++ f ∷ []) ≡ all_text g v old (at_place l p) ws
+  goes_in old new wrote p l f w ws n e =
+      let b = behind g v f in
+      let x = value_at g v w in
+      let r = waiting_text g v ws in
+      ap (λ (t : Text). (new ++ x) ++ t) (waits_more ws f)
+      ∙ sym (append_assoc (new ++ x) b r)
+      ∙ ap (λ (t : Text). t ++ r) (append_assoc new x b ∙ written old new wrote (value_at g v (at_place l p)) (x ++ b) n e)
 
   -- the value ends, and none waits
   pub ends_all : (old mid new wrote : Text) (p : ℕ) (l : Link) (before : List Waiting) → mid ≡ old ++ wrote → value_at g v (at_place l p) ≡ wrote → before ≡ [] → new ≡ mid →
@@ -108,35 +120,47 @@ module _ (g : Program) (v : Shown) where
 
   -- ---- turns
 
-  less_left : (p : ℕ) (l k : Link) (ws : List Waiting) → p < length v.items → load (length v.items) (at_place k (p + 1)) ws < load (length v.items) (at_place l p) ws
-  less_left p l k ws h = omega (arith, triple_less (length v.items) p h, triple_some (length v.items - (p + 1)))
+  -- the value at a link behind a place
+  pub record IsBehind (p : ℕ) (k : Link) (w : Waiting) : Type 0 where
+    pub same : value_at g v w ≡ value_from g v (drop (p + 1) v.items) k
+    pub less : p < w.place
 
-  pub on_advances : (old new : Text) (p : ℕ) (l : Link) (ws : List Waiting) (r : Waiting) (xs : List Item) → xs ≡ v.items → p < length xs → TurnsAt g v old new p l turn.On → r ≡ at_place l (p + 1) →
-      (all_text g v new r ws ≡ all_text g v old (at_place l p) ws) × (load (length v.items) r ws < load (length v.items) (at_place l p) ws)
-  on_advances old new p l ws r xs same h t e =
-      let h' : p < length v.items = subst (λ (ys : List Item). p < length ys) same h in
-      subst (λ (x : Waiting). (all_text g v new x ws ≡ all_text g v old (at_place l p) ws) × (load (length v.items) x ws < load (length v.items) (at_place l p) ws)) (sym e)
-      (goes_on old new p l ws t.0 t.1, less_left p l l ws h')
+  pub behind_by : (t : Providers) (p n : ℕ) (k : Link) (w : Waiting) (xs : List Item) → FindsAll t v.items → xs ≡ v.items → n ≡ length xs → p < n → w ≡ at_place k (jump (place_on t k) p n) → IsBehind p k w
+  behind_by t p n k w xs f same len h e =
+      let m : n ≡ length v.items = len ∙ ap length same in
+      let h' : p < length v.items = omega (arith, h, m) in
+      let e' : at_place k (jump (place_on t k) p (length v.items)) ≡ w = sym (e ∙ ap (λ (j : ℕ). at_place k (jump (place_on t k) p j)) m) in
+      let j = value_jumps g v (place_on t k) p k (sym (f k)) h' in
+      subst (IsBehind p k) e' (record { same = j.0; less = j.1 })
 
-  pub next_advances : (old new : Text) (p : ℕ) (l k : Link) (ws : List Waiting) (r : Waiting) (xs : List Item) → xs ≡ v.items → p < length xs → TurnsAt g v old new p l (turn.Next k) → r ≡ at_place k (p + 1) →
-      (all_text g v new r ws ≡ all_text g v old (at_place l p) ws) × (load (length v.items) r ws < load (length v.items) (at_place l p) ws)
-  next_advances old new p l k ws r xs same h t e =
-      let h' : p < length v.items = subst (λ (ys : List Item). p < length ys) same h in
-      subst (λ (x : Waiting). (all_text g v new x ws ≡ all_text g v old (at_place l p) ws) × (load (length v.items) x ws < load (length v.items) (at_place l p) ws)) (sym e)
-      (goes_next old new t.0 p l k ws t.1 t.2, less_left p l k ws h')
+  pub inside : (p : ℕ) (xs : List Item) → xs ≡ v.items → p < length xs → p < length v.items
+  inside p xs same h = subst (λ (ys : List Item). p < length ys) same h
 
-  sent_less : (p : ℕ) (l k next : Link) (ws : List Waiting) → p < length v.items → load (length v.items) (at_place k (p + 1)) (ws ++ at_place next (p + 1) ∷ []) < load (length v.items) (at_place l p) ws
-  sent_less p l k next ws h = omega (arith, triple_less (length v.items) p h, triple_some (length v.items - (p + 1)), weight_more (length v.items) ws (at_place next (p + 1)))
+  less_left : (p : ℕ) (l : Link) (w : Waiting) (ws : List Waiting) → p < length v.items → p < w.place → load (length v.items) w ws < load (length v.items) (at_place l p) ws
+  less_left p l w ws h b =
+      let n = length v.items in
+      let k : n - w.place ≤ n - (p + 1) = omega (arith, b) in
+      omega (arith, triple_less n p h, triple_some (n - (p + 1)), triple_more (n - w.place) (n - (p + 1)) k)
 
-  pub sent_advances : (old new : Text) (p : ℕ) (l k next : Link) (ws after : List Waiting) (f r : Waiting) (xs : List Item) → xs ≡ v.items → p < length xs → TurnsAt g v old new p l (turn.Sent k next) →
-      f ≡ at_place next (p + 1) → r ≡ at_place k (p + 1) → after ≡ ws ++ f ∷ [] →
-      (all_text g v new r after ≡ all_text g v old (at_place l p) ws) × (load (length v.items) r after < load (length v.items) (at_place l p) ws)
-  sent_advances old new p l k next ws after f r xs same h t e d a =
-      let h' : p < length v.items = subst (λ (ys : List Item). p < length ys) same h in
-      let a' : ws ++ at_place next (p + 1) ∷ [] ≡ after = ap (λ (x : Waiting). ws ++ x ∷ []) (sym e) ∙ sym a in
-      subst (λ (ys : List Waiting). (all_text g v new r ys ≡ all_text g v old (at_place l p) ws) × (load (length v.items) r ys < load (length v.items) (at_place l p) ws)) a'
-      (subst (λ (x : Waiting). (all_text g v new x (ws ++ at_place next (p + 1) ∷ []) ≡ all_text g v old (at_place l p) ws) × (load (length v.items) x (ws ++ at_place next (p + 1) ∷ []) < load (length v.items) (at_place l p) ws)) (sym d)
-      (goes_in old new t.0 p l k next ws t.1 t.2, sent_less p l k next ws h'))
+  pub on_advances : (old new : Text) (p : ℕ) (l : Link) (ws : List Waiting) (w : Waiting) → p < length v.items → TurnsAt g v old new p l turn.On → IsBehind p l w → Advances g v old new ws ws (at_place l p) (Some w)
+  on_advances old new p l ws w h t b = (goes_on old new p l w ws t.0 (t.1 ∙ sym b.same), less_left p l w ws h b.less)
+
+  pub next_advances : (old new : Text) (p : ℕ) (l k : Link) (ws : List Waiting) (w : Waiting) → p < length v.items → TurnsAt g v old new p l (turn.Next k) → IsBehind p k w → Advances g v old new ws ws (at_place l p) (Some w)
+  next_advances old new p l k ws w h t b = (goes_next old new t.0 p l w ws t.1 (t.2 ∙ ap (λ (x : Text). t.0 ++ x) (sym b.same)), less_left p l w ws h b.less)
+
+  sent_less : (p : ℕ) (l : Link) (f w : Waiting) (ws : List Waiting) → p < length v.items → p < f.place → p < w.place → load (length v.items) w (ws ++ f ∷ []) < load (length v.items) (at_place l p) ws
+  sent_less p l f w ws h a b =
+      let n = length v.items in
+      let j : n - f.place ≤ n - (p + 1) = omega (arith, a) in
+      let k : n - w.place ≤ n - (p + 1) = omega (arith, b) in
+      omega (arith, triple_less n p h, triple_some (n - (p + 1)), weight_more n ws f, triple_more (n - f.place) (n - (p + 1)) j, triple_more (n - w.place) (n - (p + 1)) k)
+
+  pub sent_advances : (old new : Text) (p : ℕ) (l k next : Link) (ws after : List Waiting) (f w : Waiting) → p < length v.items → TurnsAt g v old new p l (turn.Sent k next) → IsBehind p next f → IsBehind p k w → after ≡ ws ++ f ∷ [] →
+      Advances g v old new ws after (at_place l p) (Some w)
+  sent_advances old new p l k next ws after f w h t a b s =
+      let e : value_at g v (at_place l p) ≡ t.0 ++ (value_at g v w ++ behind g v f) = t.2 ∙ ap₂ (λ (x y : Text). t.0 ++ (x ++ (codes ") . " ++ y))) (sym b.same) (sym a.same) in
+      subst (λ (ys : List Waiting). Advances g v old new ws ys (at_place l p) (Some w)) (sym s)
+      (goes_in old new t.0 p l f w ws t.1 e, sent_less p l f w ws h a.less b.less)
 
   back_less : (p : ℕ) (l : Link) (before after : List Waiting) (w : Waiting) → before ≡ after ++ w ∷ [] → load (length v.items) w after < load (length v.items) (at_place l p) before
   back_less p l before after w b = let e : weight (length v.items) before ≡ weight (length v.items) (after ++ w ∷ []) = ap (weight (length v.items)) b in omega (arith, e, weight_more (length v.items) after w, triple_some (length v.items - p))

@@ -1,3 +1,4 @@
 pub mod Shows
-pub mod Advancing
 pub mod TraceLemmas
+pub mod Places
+pub mod Advancing

@@ -1,6 +1,6 @@
 -- The lines of a trace, one after another, and what is kept of what messages hold.
-use Rattle.std.proofs.Common.{◌≡◌, ℕ, ◌+◌, ◌<◌, ◌≤◌, Bool, true, false, cond, List, [], ◌∷◌, ◌++◌, Some, refl, sym, ap, ap₂, ◌∙◌, length, take, drop, reverse, append_assoc, if◌then◌else◌}
-use Rattle.std.specs.Prelude.{slice_get, codes, ◌&&◌, ◌==◌, Option}
+use Rattle.std.proofs.Common.{◌≡◌, ℕ, ◌+◌, ◌<◌, Bool, true, false, cond, List, [], ◌∷◌, ◌++◌, Some, refl, sym, ap, ap₂, ◌∙◌, length, take, drop, reverse, append_assoc, if◌then◌else◌}
+use Rattle.std.specs.Prelude.{slice_get, codes, ◌&&◌, Option}
 use Rattle.std.specs.Fmt.{decimal}
 use Rattle.std.specs.Option.{unwrap_or}
 use Rattle.std.specs.Ordering.{nat_cmp, ordering_then, is_eq}
@@ -69,7 +69,7 @@ then_equal Equal p = refl
 then_equal Greater p = refl
 
 -- links are the same where their keys are
-same_keys : (k l : Link) → is_eq (key_cmp (key k) (key l)) ≡ same_link k l
+pub same_keys : (k l : Link) → is_eq (key_cmp (key k) (key l)) ≡ same_link k l
 same_keys k l =
     then_equal (nat_cmp k.session.0 l.session.0) (nat_cmp k.index l.index) ∙ ap₂ (λ (x y : Bool). x && y) (unsigned_tied k.session.0 l.session.0) (unsigned_tied k.index l.index)
 

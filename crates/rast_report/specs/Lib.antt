@@ -4,3 +4,4 @@ pub mod Reports
 pub mod Waiting
 pub mod Turns
 pub mod Amounts
+pub mod Providers

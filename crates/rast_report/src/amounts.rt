@@ -59,7 +59,8 @@ impl Amounts {
     }
 }
 
-fn key(link: Link) -> (u32, u32)
+/// A link as a key.
+pub(crate) fn key(link: Link) -> (u32, u32)
     ensures { result ≡ key link }
 {
     (link.session.0, link.index)

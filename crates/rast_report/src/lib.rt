@@ -3,6 +3,7 @@
 
 mod amounts;
 mod printing;
+mod providers;
 mod summary;
 mod sums;
 mod text;

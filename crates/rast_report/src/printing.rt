@@ -1,13 +1,15 @@
 // The printed value.
-ghost use Rattle.std.specs.Prelude.{◌≡◌, ◌<◌, ◌+◌, ◌-◌, ◌^◌, IfOk, length};
+ghost use Rattle.std.specs.Prelude.{◌≡◌, ◌<◌, IfOk, length};
 ghost use Rattle.rast_items.specs.Links.{same_link};
 ghost use Rattle.rast_core.specs.Promises.{IsGoing};
-ghost use Rattle.rast_report.specs.Values.{process_text, value_text, is_client};
+ghost use Rattle.rast_report.specs.Values.{process_text, value_text};
+ghost use Rattle.rast_report.specs.Providers.{place_on, jump, FindsAll};
 ghost use Rattle.rast_report.specs.Turns.{Goes, TurnsAt, GoesBack, Advances};
 
+use crate::providers::{Providers, is_to_client};
 use crate::text::{put, put_body};
 use rast_core::{Config, Next};
-use rast_items::{Body, Item, Link, Msg, Pid, Proc, Side};
+use rast_items::{Body, Item, Link, Msg, Pid, Proc};
 use rast_terms::Program;
 use std::alloc::{AllocError, Global};
 
@@ -23,15 +25,6 @@ fn is_same(a: Link, b: Link) -> bool
     ensures { result ≡ same_link a b }
 {
     a.session.0 == b.session.0 && a.index == b.index
-}
-
-fn is_to_client(side: Side) -> bool
-    ensures { result ≡ is_client side }
-{
-    match side {
-        Side::Client => true,
-        Side::Provider => false,
-    }
 }
 
 // What a process shows that provides the link of the value.
@@ -51,14 +44,14 @@ fn process_shows(program: &Program, config: &Config, proc: &Proc) -> &'static [u
     }
 }
 
-// The link, behind a place.
-fn further(link: Link, place: usize) -> Waiting
-    requires { place < 2 ^ 64 - 1 }
-    ensures { result ≡ record { link = link; place = place + 1 } }
+// The link, from where its value is found behind a place.
+fn further(table: &Providers, link: Link, place: usize, length: usize) -> Waiting
+    requires { place < length }
+    ensures { result ≡ record { link = link; place = jump (place_on table.now link) place length } }
 {
     Waiting {
         link,
-        place: place + 1,
+        place: table.behind(link, place, length),
     }
 }
 
@@ -157,35 +150,44 @@ fn advance(
     text: &mut Vec<u8>,
     program: &Program,
     config: &Config,
+    table: &Providers,
     waiting: &mut Vec<Waiting>,
     at: Waiting,
 ) -> Result<Option<Waiting>, AllocError>
-    requires { IsGoing program.now config.now }
+    requires going { IsGoing program.now config.now }
+    requires finds { FindsAll table.now config.now.items }
     ensures { IfOk result (λ next. Advances program.now config.now text.old.items text.new.items waiting.old.items waiting.new.items at next) }
 {
     let Waiting { link, place } = at;
-    if place >= config.items().len() {
+    let length = config.items().len();
+    if place >= length {
         put(text, b"...")?;
         let next = next_waiting(text, waiting)?;
         return Ok(next);
     }
     match put_item(alloc, text, program, config, place, link)? {
-        Turn::On => Ok(Some(further(link, place))),
+        Turn::On => Ok(Some(further(table, link, place, length))),
         Turn::Ends => {
             let next = next_waiting(text, waiting)?;
             Ok(next)
         }
-        Turn::Next(next) => Ok(Some(further(next, place))),
+        Turn::Next(next) => Ok(Some(further(table, next, place, length))),
         Turn::Sent(sent, next) => {
-            waiting.push(further(next, place))?;
-            Ok(Some(further(sent, place)))
+            waiting.push(further(table, next, place, length))?;
+            Ok(Some(further(table, sent, place, length)))
         }
     }
 }
 
-/// What main's channel holds for a client: the value of a configuration that a run of an accepted program came to.
-pub fn value(alloc: Global, program: &Program, config: &Config) -> Result<Vec<u8>, AllocError>
-    requires { IsGoing program.now config.now }
+// The value, by a table of where each link is provided.
+fn value_by(
+    alloc: Global,
+    program: &Program,
+    config: &Config,
+    table: &Providers,
+) -> Result<Vec<u8>, AllocError>
+    requires going { IsGoing program.now config.now }
+    requires finds { FindsAll table.now config.now.items }
     ensures { IfOk result (λ text. text.items ≡ value_text program.now config.now) }
 {
     let mut text = Vec::new(alloc);
@@ -194,8 +196,19 @@ pub fn value(alloc: Global, program: &Program, config: &Config) -> Result<Vec<u8
         link: Link::first(Pid(0)),
         place: 0,
     };
-    while let Some(next) = advance(alloc, &mut text, program, config, &mut waiting, at)? {
+    while let Some(next) = advance(alloc, &mut text, program, config, table, &mut waiting, at)? {
         at = next;
     }
     Ok(text)
+}
+
+/// What main's channel holds for a client: the value of a configuration that a run of an accepted program came to.
+pub fn value(alloc: Global, program: &Program, config: &Config) -> Result<Vec<u8>, AllocError>
+    requires { IsGoing program.now config.now }
+    ensures { IfOk result (λ text. text.items ≡ value_text program.now config.now) }
+{
+    let table = Providers::of(alloc, config.items())?;
+    let text = value_by(alloc, program, config, &table);
+    drop(table);
+    text
 }

@@ -50,3 +50,8 @@ made_ok whole a k x y e is f = e ∙ rw is (ap (λ z. Ok z) (sym f))
 
 pub made_fails : {X Y : Type 0} (whole : Answer Y) (a : Answer X) (k : X → Y) (g : NameErr) → whole ≡ (a >>= λ z. Ok (k z)) → Fails a g → Fails whole g
 made_fails whole a k g e h = same_fault _ _ g (sym e) (passes a (λ z. Ok (k z)) g h)
+
+-- what is made of each step of an answer is what is made of the whole
+pub chained : {X Y Z : Type 0} (a : Answer X) (f : X → Answer Y) (k : Y → Answer Z) (g : X → Answer Z) → ((x : X) → g x ≡ (f x >>= k)) → (a >>= g) ≡ ((a >>= f) >>= k)
+chained (Ok x) f k g h = h x
+chained (Err e) f k g h = refl

@@ -5,7 +5,6 @@ use Rattle.rast_index.specs.Linear.{Linear}
 use Rattle.rast_index.specs.declared.formula.Formula.{Formula}
 use Rattle.rast_types.specs.declared.ty.Ty.{Ty}
 use Rattle.rast_types.specs.declared.equation.Ref.{Ref}
-use Rattle.rast_terms.specs.declared.node.Node.{Node}
 use Rattle.rast_ast.specs.declared.term.Lin.{Lin}
 use Rattle.rast_ast.specs.declared.form.Form.{Form}
 use Rattle.rast_ast.specs.declared.file.Channel.{Channel}
@@ -13,18 +12,20 @@ use Rattle.rast_ast.specs.declared.type_expr.TypeExpr.{TypeExpr}
 use Rattle.rast_ast.specs.declared.process.Proc.{Proc}
 use Rattle.rast_ast.specs.declared.process.By.{By}
 use Rattle.rast_resolve.specs.declared.gather.Sought.TheVariants as sought
+use Rattle.rast_resolve.specs.declared.parts.Part.{Part}
 use Rattle.rast_resolve.specs.declared.parts.Part.TheVariants as part
 use Rattle.rast_ast.specs.declared.file.File.{File}
 use Rattle.rast_ast.specs.declared.file.Item.{Item}
+use Rattle.rast_terms.specs.declared.program.Decl.{Decl}
 use Rattle.rast_terms.specs.declared.program.Program.{Program}
 use Rattle.rast_resolve.specs.declared.fault.NameErr.{NameErr}
-use Rattle.rast_resolve.specs.Answers.{Answer, ◌>>=◌, Fails}
+use Rattle.rast_resolve.specs.Answers.{Answer, ◌>>=◌, Fails, Gives}
 use Rattle.rast_resolve.specs.Scopes.{Text, Texts, Known, Counts, number_in, place_of}
 use Rattle.rast_resolve.specs.Types.{type_of}
 use Rattle.rast_resolve.specs.Bodies.{nodes_of, refs_of, declared, body_start}
 use Rattle.rast_resolve.specs.Names.{names_in_type, names_of, def_names, def_params, decl_names, decl_counts, body_names, starts_of, known_of}
 use Rattle.rast_resolve.specs.Programs.{params_of, header_channels, used_types, potential_of, premise_of, unless_among, if_counted, numbers, channel_quantifiers, def_of, decl_of, body_of, equation_of, program_with, resolved}
-use Rattle.rast_resolve.proofs.Chains.{passes, same_fault, made_ok, made_fails}
+use Rattle.rast_resolve.proofs.Chains.{passes, same_fault, made_fails, chained}
 use Rattle.rast_resolve.proofs.Heads.{params_counted}
 
 module _ (k : Known) (n : Text) (ps vars : Texts) (bound : params_of n ps ≡ Ok vars) (cnt : ℕ) (counted : cnt ≡ length vars) where
@@ -35,45 +36,80 @@ module _ (k : Known) (n : Text) (ps vars : Texts) (bound : params_of n ps ≡ Ok
       def_of k n ps a ≡ Ok (part.Def (record { name = nm; params = cnt; body = b }) said)
   def_made a b nm said is named says = rw (bound, is, named, says, as_many) refl
 
-  pub decl_made : (us : List Channel) (q : Option Lin) (x : Channel) (r : List Ty × Texts) (vars' : Texts) (p : Linear) (u : Unit {0}) (a : Ty) (nm start : ℕ) (said channels : List ℕ) (none : Texts) →
-      used_types k n vars none us ≡ Ok r → none ≡ [] → vars' ≡ vars → potential_of n vars' q ≡ Ok p → unless_among x.name r.1 ≡ Ok u → type_of k n x.body vars' ≡ Ok a → nm ≡ number_in k.names n → start ≡ body_start k n
-      → said ≡ numbers k (ps ++ (flat_map channel_quantifiers us ++ channel_quantifiers x)) → channels ≡ numbers k (x.name ∷ map (λ c. c.name) us) →
-      decl_of k n ps us q x ≡ Ok (part.Decl (record { name = nm; params = cnt; uses = r.0; potential = p; gives = a; body = start }) said channels)
-  decl_made us q x r vars' p u a nm start said channels none uses empty kept potential apart gives named starts says names =
-      let uses' : used_types k n vars [] us ≡ Ok r = subst (λ s. used_types k n vars s us ≡ Ok r) empty uses in
-      let potential' : potential_of n vars q ≡ Ok p = subst (λ v. potential_of n v q ≡ Ok p) kept potential in
-      let gives' : type_of k n x.body vars ≡ Ok a = subst (λ v. type_of k n x.body v ≡ Ok a) kept gives in
-      rw (bound, uses', potential', apart, gives', named, starts, says, names, as_many) refl
+  module _ (us : List Channel) (q : Option Lin) (x : Channel) (nm : ℕ) (said channels : List ℕ) (none : Texts) (named : nm ≡ number_in k.names n)
+      (says : said ≡ numbers k (ps ++ (flat_map channel_quantifiers us ++ channel_quantifiers x))) (names : channels ≡ numbers k (x.name ∷ map (λ c. c.name) us)) (empty : none ≡ []) where
+    abbrev made : List Ty × Texts → Linear → Ty → Decl
+    made r p a = record { name = nm; params = cnt; uses = r.0; potential = p; gives = a; body = body_start k n }
+
+    abbrev whole : Decl → Answer Part
+    whole d = Ok (part.Decl d said channels)
+
+    abbrev head : Answer Decl
+    head = used_types k n vars none us >>= λ r. potential_of n vars q >>= λ p. unless_among x.name r.1 >>= λ u. type_of k n x.body vars >>= λ a. Ok (made r p a)
+
+    on_head : decl_of k n ps us q x ≡ (used_types k n vars none us >>= λ r. potential_of n vars q >>= λ p. unless_among x.name r.1 >>= λ u. type_of k n x.body vars >>= λ a. whole (made r p a))
+    on_head = rw (bound, named, says, names, as_many, empty) refl
+
+    decl_on : decl_of k n ps us q x ≡ (head >>= whole)
+    decl_on =
+        on_head
+        ∙ chained (used_types k n vars none us) (λ r. potential_of n vars q >>= λ p. unless_among x.name r.1 >>= λ u. type_of k n x.body vars >>= λ a. Ok (made r p a)) whole
+        (λ r. potential_of n vars q >>= λ p. unless_among x.name r.1 >>= λ u. type_of k n x.body vars >>= λ a. whole (made r p a))
+        (λ r. chained (potential_of n vars q) (λ p. unless_among x.name r.1 >>= λ u. type_of k n x.body vars >>= λ a. Ok (made r p a)) whole
+        (λ p. unless_among x.name r.1 >>= λ u. type_of k n x.body vars >>= λ a. whole (made r p a))
+        (λ p. chained (unless_among x.name r.1) (λ u. type_of k n x.body vars >>= λ a. Ok (made r p a)) whole (λ u. type_of k n x.body vars >>= λ a. whole (made r p a))
+        (λ u. chained (type_of k n x.body vars) (λ a. Ok (made r p a)) whole (λ a. whole (made r p a)) (λ a. refl))))
+
+    pub decl_made : (d : Decl) → head ≡ Ok d → decl_of k n ps us q x ≡ whole d
+    decl_made d h = decl_on ∙ ap (λ z. z >>= whole) h
+
+    pub decl_stops : (e : NameErr) → Fails head e → Fails (decl_of k n ps us q x) e
+    decl_stops e h = same_fault _ _ e (sym decl_on) (passes head whole e h)
+
+-- an equation, from its sides and its references
+module _ (k : Known) (w : Text) (vars : Texts) (cnt : ℕ) (f : Option Form) (a b : TypeExpr) (by : Option By) (g : Formula) (premise : premise_of w vars f ≡ Ok g) where
+  abbrev Sides : Type 0
+  Sides = Ty × Ty × List Ref
+
+  abbrev equal : Sides → Answer Part
+  equal t = Ok (part.Equation (record { vars = cnt; premise = g; left = t.0; right = t.1; refs = t.2 }))
+
+  abbrev sides : Answer Sides
+  sides = type_of k w a vars >>= λ x. type_of k w b vars >>= λ y. refs_of w vars by >>= λ rs. Ok (x, y, rs)
+
+  abbrev over : Answer Part
+  over = premise_of w vars f >>= λ h. type_of k w a vars >>= λ x. type_of k w b vars >>= λ y. refs_of w vars by >>= λ rs. Ok (part.Equation (record { vars = cnt; premise = h; left = x; right = y; refs = rs }))
+
+  on_sides : over ≡ (type_of k w a vars >>= λ x. type_of k w b vars >>= λ y. refs_of w vars by >>= λ rs. equal (x, y, rs))
+  on_sides = rw premise refl
+
+  over_on : over ≡ (sides >>= equal)
+  over_on =
+      on_sides
+      ∙ chained (type_of k w a vars) (λ x. type_of k w b vars >>= λ y. refs_of w vars by >>= λ rs. Ok (x, y, rs)) equal (λ x. type_of k w b vars >>= λ y. refs_of w vars by >>= λ rs. equal (x, y, rs))
+      (λ x. chained (type_of k w b vars) (λ y. refs_of w vars by >>= λ rs. Ok (x, y, rs)) equal (λ y. refs_of w vars by >>= λ rs. equal (x, y, rs))
+      (λ y. chained (refs_of w vars by) (λ rs. Ok (x, y, rs)) equal (λ rs. equal (x, y, rs)) (λ rs. refl)))
+
+  pub over_made : (t : Sides) → sides ≡ Ok t → over ≡ equal t
+  over_made t h = over_on ∙ ap (λ z. z >>= equal) h
+
+  pub over_stops : (e : NameErr) → Fails sides e → Fails over e
+  over_stops e h = same_fault _ _ e (sym over_on) (passes sides equal e h)
+
+-- an equation, over its variables
+pub equation_made : (k : Known) (w : Text) (ps vars : Texts) (cnt : ℕ) (f : Option Form) (a b : TypeExpr) (by : Option By) (r : Answer Part) → params_of w ps ≡ Ok vars → cnt ≡ length vars →
+    Gives (premise_of w vars f >>= λ g. type_of k w a vars >>= λ x. type_of k w b vars >>= λ y. refs_of w vars by >>= λ rs. Ok (part.Equation (record { vars = cnt; premise = g; left = x; right = y; refs = rs }))) r
+    → Gives (equation_of k w ps f a b by) r
+equation_made k w ps vars cnt f a b by r bound counted h =
+    let many : cnt ≡ length ps = counted ∙ params_counted w ps vars bound in
+    let e : equation_of k w ps f a b by
+    ≡ (premise_of w vars f >>= λ g. type_of k w a vars >>= λ x. type_of k w b vars >>= λ y. refs_of w vars by >>= λ rs. Ok (part.Equation (record { vars = cnt; premise = g; left = x; right = y; refs = rs }))) =
+    rw (bound, many) refl in
+    subst (λ z. Gives z r) (sym e) h
 
 -- an equation, whose item has the name w for its faults
-module _ (k : Known) (whose w : Text) (ps vars : Texts) (f : Option Form) (a b : TypeExpr) (by : Option By) (g : Formula) (bound : params_of w ps ≡ Ok vars) (premise : premise_of w vars f ≡ Ok g) (same : w ≡ whose) where
-  equation_on : equation_of k whose ps f a b by ≡
-      (type_of k w a vars >>= λ x. type_of k w b vars >>= λ y. refs_of w vars by >>= λ rs. Ok (part.Equation (record { vars = length ps; premise = g; left = x; right = y; refs = rs })))
-  equation_on = rw (← same, bound, premise) refl
-
-  pub left_stops : (e : NameErr) → Fails (type_of k w a vars) e → Fails (equation_of k whose ps f a b by) e
-  left_stops e h = same_fault _ _ e (sym equation_on) (passes (type_of k w a vars) (λ x. type_of k w b vars >>= λ y. refs_of w vars by >>= λ rs. Ok (part.Equation (record { vars = length ps; premise = g; left = x; right = y; refs = rs }))) e h)
-
-  module _ (x : Ty) (vars' : Texts) (left : type_of k w a vars ≡ Ok x) (kept : vars' ≡ vars) where
-    left_on : equation_of k whose ps f a b by ≡
-        (type_of k w b vars' >>= λ y. refs_of w vars' by >>= λ rs. Ok (part.Equation (record { vars = length ps; premise = g; left = x; right = y; refs = rs })))
-    left_on = equation_on ∙ rw (left, kept) refl
-
-    pub right_stops : (e : NameErr) → Fails (type_of k w b vars') e → Fails (equation_of k whose ps f a b by) e
-    right_stops e h = same_fault _ _ e (sym left_on) (passes (type_of k w b vars') (λ y. refs_of w vars' by >>= λ rs. Ok (part.Equation (record { vars = length ps; premise = g; left = x; right = y; refs = rs }))) e h)
-
-    module _ (y : Ty) (vars'' : Texts) (right : type_of k w b vars' ≡ Ok y) (kept' : vars'' ≡ vars') where
-      right_on : equation_of k whose ps f a b by ≡ (refs_of w vars'' by >>= λ rs. Ok (part.Equation (record { vars = length ps; premise = g; left = x; right = y; refs = rs })))
-      right_on = left_on ∙ rw (right, kept') refl
-
-      pub refs_stop : (e : NameErr) → Fails (refs_of w vars'' by) e → Fails (equation_of k whose ps f a b by) e
-      refs_stop e h = made_fails _ (refs_of w vars'' by) (λ rs. part.Equation (record { vars = length ps; premise = g; left = x; right = y; refs = rs })) e right_on h
-
-      pub equation_made : (cnt : ℕ) (rs : List Ref) → refs_of w vars'' by ≡ Ok rs → cnt ≡ length vars'' →
-          equation_of k whose ps f a b by ≡ Ok (part.Equation (record { vars = cnt; premise = g; left = x; right = y; refs = rs }))
-      equation_made cnt rs refs counted =
-          let many : cnt ≡ length ps = counted ∙ ap length (kept' ∙ kept) ∙ params_counted w ps vars bound in
-          right_on ∙ rw (refs, many) refl
+pub equation_named : (k : Known) (whose w : Text) (ps : Texts) (f : Option Form) (a b : TypeExpr) (by : Option By) (r : Answer Part) → w ≡ whose → Gives (equation_of k w ps f a b by) r → Gives (equation_of k whose ps f a b by) r
+equation_named k whose w ps f a b by r same h = subst (λ z. Gives (equation_of k z ps f a b by) r) same h
 
 -- a body
 module _ (k : Known) (x f : Text) (ps ys : Texts) (t : Proc) (m l start : ℕ) (v : Unit {0}) (vars channels : Texts)
@@ -85,9 +121,6 @@ module _ (k : Known) (x f : Text) (ps ys : Texts) (t : Proc) (m l start : ℕ) (
 
   pub body_stops : (e : NameErr) → Fails (nodes_of k f t (record { vars = vars; channels = channels }) start) e → Fails (body_of k x f ps ys t) e
   body_stops e h = made_fails _ (nodes_of k f t (record { vars = vars; channels = channels }) start) (part.Body (place_of f k.decls)) e body_on h
-
-  pub body_made : (ns : List Node) (pl : Option ℕ) → nodes_of k f t (record { vars = vars; channels = channels }) start ≡ Ok ns → pl ≡ place_of f k.decls → body_of k x f ps ys t ≡ Ok (part.Body pl ns)
-  body_made ns pl is here = made_ok _ _ (part.Body (place_of f k.decls)) ns _ body_on is (ap (λ z. part.Body z ns) here)
 
 -- what is known of a file
 pub known_made : (is : List Item) (ns ts : Texts) (ps : List ℕ) (ds : Texts) (cs : List Counts) (fs : Texts) (ss : List ℕ) (d : Texts) → ns ≡ names_of is → ts ≡ flat_map def_names is → ps ≡ flat_map def_params is

@@ -107,11 +107,12 @@ pub(crate) fn called(
     if !is_counted(known.declared(name), args.len(), used.len()) {
         return Err(arity(alloc, name));
     }
+    let decl = known.decl_number(name)?;
     let args = linears(alloc, item, false, &place.vars, args)?;
     let ys = place.channel_numbers(alloc, used)?;
     let refs = references(alloc, item, &place.vars, by)?;
     Ok(Callee {
-        decl: known.decl_number(name)?,
+        decl,
         args,
         ys,
         refs,

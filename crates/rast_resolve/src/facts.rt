@@ -21,14 +21,23 @@ fn add_once(alloc: Global, names: &mut Index, more: &[Name]) -> Result<(), Alloc
     Ok(())
 }
 
+// Adds the names of an item that aren't there yet.
+fn add_item(alloc: Global, names: &mut Index, item: &Item) -> Result<(), AllocError>
+    ensures { OnOk result (names.new ≡ once_from names.old (item_names item.now)) }
+{
+    let more = item_names(alloc, item)?;
+    let done = add_once(alloc, names, more.as_slice());
+    drop(more);
+    done
+}
+
 // The names of a program, each once.
 fn names_of(alloc: Global, items: &[Item]) -> Result<Index, AllocError>
     ensures { IfOk result (λ names. names ≡ names_of items.now) }
 {
     let mut names = Index::new(alloc);
     for item in items {
-        let more = item_names(alloc, item)?;
-        add_once(alloc, &mut names, more.as_slice())?;
+        add_item(alloc, &mut names, item)?;
     }
     Ok(names)
 }
@@ -101,19 +110,38 @@ fn body_names(alloc: Global, items: &[Item]) -> Result<Index, AllocError>
     Ok(names)
 }
 
+// Puts what is known of a file of these items.
+fn fill(alloc: Global, known: &mut Known, items: &[Item]) -> Result<(), AllocError>
+    ensures { OnOk result (known.new ≡ known_of items.now) }
+{
+    known.decls = decl_names(alloc, items)?;
+    known.starts = body_starts(alloc, &known.decls, items)?;
+    known.names = names_of(alloc, items)?;
+    known.types = def_names(alloc, items)?;
+    known.params = def_params(alloc, items)?;
+    known.counts = decl_counts(alloc, items)?;
+    known.procs = body_names(alloc, items)?;
+    Ok(())
+}
+
 // What is known of a file of these items from its beginning.
 pub(crate) fn known_of(alloc: Global, items: &[Item]) -> Result<Known, AllocError>
     ensures { IfOk result (λ known. known ≡ known_of items.now) }
 {
-    let decls = decl_names(alloc, items)?;
-    let starts = body_starts(alloc, &decls, items)?;
-    Ok(Known {
-        names: names_of(alloc, items)?,
-        types: def_names(alloc, items)?,
-        params: def_params(alloc, items)?,
-        decls,
-        counts: decl_counts(alloc, items)?,
-        procs: body_names(alloc, items)?,
-        starts,
-    })
+    let mut known = Known {
+        names: Index::new(alloc),
+        types: Index::new(alloc),
+        params: Items::new(alloc),
+        decls: Index::new(alloc),
+        counts: Items::new(alloc),
+        procs: Index::new(alloc),
+        starts: Items::new(alloc),
+    };
+    match fill(alloc, &mut known, items) {
+        Ok(()) => Ok(known),
+        Err(e) => {
+            drop(known);
+            Err(e)
+        }
+    }
 }

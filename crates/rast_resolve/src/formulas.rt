@@ -73,9 +73,9 @@ pub(crate) fn formula(
     match written {
         Form::Plain(d) => disjunction(alloc, item, vars, d),
         Form::Implies(d, form) => {
-            let left = disjunction(alloc, item, vars, d)?;
-            let right = formula(alloc, item, vars, form.get())?;
-            Ok(Formula::Imp(Boxed::new(alloc, left)?, Boxed::new(alloc, right)?))
+            let left = Boxed::new(alloc, disjunction(alloc, item, vars, d)?)?;
+            let right = Boxed::new(alloc, formula(alloc, item, vars, form.get())?)?;
+            Ok(Formula::Imp(left, right))
         }
     }
 }
@@ -92,7 +92,10 @@ fn disjunction(
     let first = conjunction(alloc, item, vars, &written.first)?;
     match conjunctions(alloc, item, vars, written.rest.as_slice()) {
         Ok(rest) => Ok(any(alloc, first, rest)?),
-        Err(e) => Err(e),
+        Err(e) => {
+            drop(first);
+            Err(e)
+        }
     }
 }
 
@@ -124,7 +127,10 @@ fn conjunction(
     let first = literal(alloc, item, vars, written.first.get())?;
     match literals(alloc, item, vars, written.rest.as_slice()) {
         Ok(rest) => Ok(every(alloc, first, rest)?),
-        Err(e) => Err(e),
+        Err(e) => {
+            drop(first);
+            Err(e)
+        }
     }
 }
 

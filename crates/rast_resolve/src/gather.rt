@@ -216,16 +216,15 @@ fn add_channels(
     Ok(())
 }
 
-// The names of an item that its program numbers, in text order.
-pub(crate) fn item_names(alloc: Global, item: &Item) -> Result<Items<Name>, AllocError>
-    ensures { IfOk result (λ out. out ≡ item_names item.now) }
+// Adds the names of an item that its program numbers, in text order.
+fn add_item(alloc: Global, out: &mut Items<Name>, item: &Item) -> Result<(), AllocError>
+    ensures { OnOk result (out.new ≡ out.old ++ item_names item.now) }
 {
-    let mut out = Items::new(alloc);
     match item {
         Item::Def { name, params, body } => {
-            add(alloc, &mut out, name)?;
-            add_all(alloc, &mut out, params.as_slice())?;
-            add_type(alloc, Sought::Both, &mut out, body)?;
+            add(alloc, out, name)?;
+            add_all(alloc, out, params.as_slice())?;
+            add_type(alloc, Sought::Both, out, body)
         }
         Item::Decl {
             name,
@@ -234,18 +233,31 @@ pub(crate) fn item_names(alloc: Global, item: &Item) -> Result<Items<Name>, Allo
             provided,
             ..
         } => {
-            add(alloc, &mut out, name)?;
-            add_all(alloc, &mut out, params.as_slice())?;
-            add_channels(alloc, &mut out, used.as_slice())?;
-            add(alloc, &mut out, &provided.name)?;
-            add_type(alloc, Sought::Both, &mut out, &provided.body)?;
+            add(alloc, out, name)?;
+            add_all(alloc, out, params.as_slice())?;
+            add_channels(alloc, out, used.as_slice())?;
+            add(alloc, out, &provided.name)?;
+            add_type(alloc, Sought::Both, out, &provided.body)
         }
-        Item::Proc { body, .. } => add_term(alloc, &mut out, body)?,
+        Item::Proc { body, .. } => add_term(alloc, out, body),
         Item::Eq { left, right, .. } => {
-            add_type(alloc, Sought::Labels, &mut out, left)?;
-            add_type(alloc, Sought::Labels, &mut out, right)?;
+            add_type(alloc, Sought::Labels, out, left)?;
+            add_type(alloc, Sought::Labels, out, right)
         }
-        Item::Exec { .. } => (),
+        Item::Exec { .. } => Ok(()),
     }
-    Ok(out)
+}
+
+// The names of an item that its program numbers, in text order.
+pub(crate) fn item_names(alloc: Global, item: &Item) -> Result<Items<Name>, AllocError>
+    ensures { IfOk result (λ out. out ≡ item_names item.now) }
+{
+    let mut out = Items::new(alloc);
+    match add_item(alloc, &mut out, item) {
+        Ok(()) => Ok(out),
+        Err(e) => {
+            drop(out);
+            Err(e)
+        }
+    }
 }

@@ -1,6 +1,6 @@
 // Parameters, channels, potentials and premises of items.
 ghost use Rattle.std.specs.Prelude.{◌≡◌, ◌≤◌, length, IfOk, OnOk};
-ghost use Rattle.rast_resolve.specs.Answers.{Gives, Leaves};
+ghost use Rattle.rast_resolve.specs.Answers.{Gives, Leaves, Makes};
 ghost use Rattle.rast_resolve.specs.Programs.{bound_names, params_of, header_channels, unless_among, used_types, potential_of, premise_of, if_counted};
 ghost use Rattle.rast_resolve.specs.Bodies.{declared};
 
@@ -18,6 +18,30 @@ use rast_types::Ty;
 use sqlite_items::Items;
 use std::alloc::Global;
 
+// Binds names of one list of the item, at most so many, after those that are bound.
+fn bind_names(
+    alloc: Global,
+    item: &Name,
+    most: usize,
+    all: &mut Bindings,
+    names: &[Name],
+) -> Result<(), NameErr>
+    requires { length all.old ≤ most }
+    ensures makes { Makes (bound_names item.now most all.old names.now) result all.new }
+    ensures few { OnOk result (length all.new ≤ most) }
+{
+    for name in names {
+        if all.has(name) {
+            return Err(twice(alloc, name));
+        }
+        if all.len() >= most {
+            return Err(limit(alloc, item));
+        }
+        all.push(alloc, name)?;
+    }
+    Ok(())
+}
+
 // Names bound in one list of the item, at most so many, after those that are bound before.
 fn bound_names(
     alloc: Global,
@@ -31,16 +55,13 @@ fn bound_names(
     ensures few { IfOk result (λ all. length all ≤ most) }
 {
     let mut all = before;
-    for name in names {
-        if all.has(name) {
-            return Err(twice(alloc, name));
+    match bind_names(alloc, item, most, &mut all, names) {
+        Ok(()) => Ok(all),
+        Err(e) => {
+            drop(all);
+            Err(e)
         }
-        if all.len() >= most {
-            return Err(limit(alloc, item));
-        }
-        all.push(alloc, name)?;
     }
-    Ok(all)
 }
 
 // The parameters of an item: at most 16, each once.
@@ -61,8 +82,13 @@ pub(crate) fn header_channels(
     ensures { Gives (header_channels item.now provided.now used.now) result }
 {
     let mut first = Bindings::new(alloc);
-    first.push(alloc, provided)?;
-    bound_names(alloc, item, 16, first, used)
+    match first.push(alloc, provided) {
+        Ok(()) => bound_names(alloc, item, 16, first, used),
+        Err(_) => {
+            drop(first);
+            Err(NameErr::Memory)
+        }
+    }
 }
 
 // A name is twice where it is among these.

@@ -1,5 +1,5 @@
 // Names in order, with the place of the first of each.
-ghost use Rattle.std.specs.Prelude.{◌≡◌, ◌<◌, [], ◌∷◌, ◌++◌, length, IfSome, OnOk};
+ghost use Rattle.std.specs.Prelude.{◌≡◌, ◌<◌, [], ◌∷◌, ◌++◌, length, IfOk, IfSome, OnOk};
 ghost use Rattle.rast_resolve.specs.Lists.{is_among, place_of, once_from};
 
 use crate::maps::put;
@@ -36,6 +36,20 @@ impl Index {
         Index {
             names: Items::new(alloc),
             places: HashMap::new(alloc),
+        }
+    }
+
+    // One name.
+    pub fn alone(alloc: Global, name: &Name) -> Result<Index, AllocError>
+        ensures { IfOk result (λ names. names ≡ name.now ∷ []) }
+    {
+        let mut names = Index::new(alloc);
+        match names.push(alloc, name) {
+            Ok(()) => Ok(names),
+            Err(e) => {
+                drop(names);
+                Err(e)
+            }
         }
     }
 

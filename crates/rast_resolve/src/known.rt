@@ -58,6 +58,14 @@ impl Known {
     ghost use Rattle.rast_resolve.specs.Scopes.{number_in};
     ghost use Rattle.rast_resolve.specs.Bodies.{is_process, declared, decl_number, body_start};
 
+    // The names of its program by number.
+    pub fn into_names(self) -> Items<Name>
+        ensures { result ≡ self.names }
+    {
+        let Known { names, .. } = self;
+        names.into_names()
+    }
+
     // The number of a name; 0 where the program has no such name.
     pub fn number(&self, name: &Name) -> Result<u32, AllocError>
         ensures { IfOk result (λ number. number ≡ number_in self.now.names name.now) }

@@ -1,9 +1,16 @@
 // What each item adds to a program.
-ghost use Rattle.std.specs.Prelude.{◌≡◌, ◌++◌, ◌∷◌, map, flat_map, codes, IfOk, OnOk};
-ghost use Rattle.rast_resolve.specs.Answers.{Gives};
-ghost use Rattle.rast_resolve.specs.Scopes.{place_of};
-ghost use Rattle.rast_resolve.specs.Programs.{numbers, channel_quantifiers, def_of, decl_of, body_of, equation_of, main_of, part_of};
+ghost use Rattle.std.specs.Prelude.{◌≡◌, ◌++◌, ◌∷◌, [], length, map, flat_map, codes, Ok, IfOk, OnOk};
+ghost use Rattle.rast_terms.specs.declared.program.Decl.{Decl};
+ghost use Rattle.rast_resolve.specs.declared.gather.Sought.TheVariants as sought;
+ghost use Rattle.rast_resolve.specs.declared.parts.Part.TheVariants as part;
+ghost use Rattle.rast_resolve.specs.Answers.{Gives, ◌>>=◌ as ◌then◌};
+ghost use Rattle.rast_resolve.specs.Scopes.{place_of, number_in};
+ghost use Rattle.rast_resolve.specs.Names.{names_in_type};
+ghost use Rattle.rast_resolve.specs.Types.{type_of};
+ghost use Rattle.rast_resolve.specs.Bodies.{nodes_of, refs_of, body_start};
+ghost use Rattle.rast_resolve.specs.Programs.{numbers, channel_quantifiers, params_of, used_types, potential_of, premise_of, unless_among, def_of, decl_of, body_of, equation_of, main_of, part_of};
 
+use crate::bindings::Bindings;
 use crate::callees::references;
 use crate::fault::{NameErr, twice, unknown};
 use crate::gather::{Sought, add_all, add_type};
@@ -18,8 +25,8 @@ use crate::terms::nodes_of;
 use crate::types::type_of;
 use rast_ast::{By, Channel, Form, Item, Lin, Name, Proc, TypeExpr};
 use rast_terms::{Decl, Node};
-use rast_types::{Equation, TypeDef};
-use sqlite_items::Items;
+use rast_types::{Equation, Ref, Ty, TypeDef};
+use sqlite_items::{Boxed, Items};
 use std::alloc::{AllocError, Global};
 
 /// What an item adds to a program.
@@ -47,13 +54,20 @@ pub(crate) enum Part {
     Main(u32),
 }
 
+// Adds the number of a name.
+fn add_number(known: &Known, out: &mut Items<u32>, name: &Name) -> Result<(), AllocError>
+    ensures { OnOk result (out.new ≡ out.old ++ number_in known.now.names name.now ∷ []) }
+{
+    out.push(known.number(name)?)
+}
+
 // The numbers of names.
 fn numbers(alloc: Global, known: &Known, names: &[Name]) -> Result<Items<u32>, AllocError>
     ensures { IfOk result (λ out. out ≡ numbers known.now names.now) }
 {
     let mut out = Items::new(alloc);
     for name in names {
-        out.push(known.number(name)?)?;
+        add_number(known, &mut out, name)?;
     }
     Ok(out)
 }
@@ -68,9 +82,9 @@ fn channel_names(
     ensures { IfOk result (λ out. out ≡ numbers known.now (provided.now ∷ map (λ c. c.name) used.now)) }
 {
     let mut out = Items::new(alloc);
-    out.push(known.number(provided)?)?;
+    add_number(known, &mut out, provided)?;
     for channel in used {
-        out.push(known.number(&channel.name)?)?;
+        add_number(known, &mut out, &channel.name)?;
     }
     Ok(out)
 }
@@ -89,6 +103,21 @@ fn add_quantifiers(
     Ok(())
 }
 
+// Adds a declaration's names for printing: its parameters, and the quantifiers of its types.
+fn add_decl_said(
+    alloc: Global,
+    said: &mut Items<Name>,
+    params: &[Name],
+    used: &[Channel],
+    provided: &Channel,
+) -> Result<(), AllocError>
+    ensures { OnOk result (said.new ≡ said.old ++ (params.now ++ (flat_map channel_quantifiers used.now ++ channel_quantifiers provided.now))) }
+{
+    add_all(alloc, said, params)?;
+    add_quantifiers(alloc, said, used)?;
+    add_type(alloc, Sought::Quantifiers, said, &provided.body)
+}
+
 // The numbers of a declaration's names for printing: of its parameters, and of the quantifiers of its types.
 fn decl_said(
     alloc: Global,
@@ -100,10 +129,53 @@ fn decl_said(
     ensures { IfOk result (λ out. out ≡ numbers known.now (params.now ++ (flat_map channel_quantifiers used.now ++ channel_quantifiers provided.now))) }
 {
     let mut said = Items::new(alloc);
-    add_all(alloc, &mut said, params)?;
-    add_quantifiers(alloc, &mut said, used)?;
-    add_type(alloc, Sought::Quantifiers, &mut said, &provided.body)?;
-    numbers(alloc, known, said.as_slice())
+    match add_decl_said(alloc, &mut said, params, used, provided) {
+        Ok(()) => {
+            let out = numbers(alloc, known, said.as_slice());
+            drop(said);
+            out
+        }
+        Err(e) => {
+            drop(said);
+            Err(e)
+        }
+    }
+}
+
+// Adds a definition's names for printing: its parameters, and the quantifiers of its type.
+fn add_def_said(
+    alloc: Global,
+    said: &mut Items<Name>,
+    params: &[Name],
+    written: &TypeExpr,
+) -> Result<(), AllocError>
+    ensures { OnOk result (said.new ≡ said.old ++ (params.now ++ names_in_type sought.Quantifiers written.now)) }
+{
+    add_all(alloc, said, params)?;
+    add_type(alloc, Sought::Quantifiers, said, written)
+}
+
+// The numbers of a definition's names for printing: of its parameters, and of the quantifiers of its type.
+fn def_said(
+    alloc: Global,
+    known: &Known,
+    params: &[Name],
+    written: &TypeExpr,
+) -> Result<Items<u32>, AllocError>
+    ensures { IfOk result (λ out. out ≡ numbers known.now (params.now ++ names_in_type sought.Quantifiers written.now)) }
+{
+    let mut said = Items::new(alloc);
+    match add_def_said(alloc, &mut said, params, written) {
+        Ok(()) => {
+            let out = numbers(alloc, known, said.as_slice());
+            drop(said);
+            out
+        }
+        Err(e) => {
+            drop(said);
+            Err(e)
+        }
+    }
 }
 
 fn def_of(
@@ -115,19 +187,54 @@ fn def_of(
 ) -> Result<Part, NameErr>
     ensures { Gives (def_of known.now name.now params.now written.now) result }
 {
+    let number = known.number(name)?;
+    let said = def_said(alloc, known, params, written)?;
     let mut vars = params_of(alloc, name, params)?;
-    let body = type_of(alloc, known, name, &mut vars, written)?;
-    let mut said = Items::new(alloc);
-    add_all(alloc, &mut said, params)?;
-    add_type(alloc, Sought::Quantifiers, &mut said, written)?;
-    let def = TypeDef {
-        name: known.number(name)?,
-        params: vars.len() as u8,
-        body,
-    };
-    Ok(Part::Def {
-        def,
-        said: numbers(alloc, known, said.as_slice())?,
+    let many = vars.len();
+    match type_of(alloc, known, name, &mut vars, written) {
+        Ok(body) => {
+            drop(vars);
+            let def = TypeDef {
+                name: number,
+                params: many as u8,
+                body,
+            };
+            Ok(Part::Def { def, said })
+        }
+        Err(e) => {
+            drop(vars);
+            drop(said);
+            Err(e)
+        }
+    }
+}
+
+// The head of a declaration of this number, with so many parameters. The name of the provided channel isn't among the others'.
+fn header_of(
+    alloc: Global,
+    known: &Known,
+    name: &Name,
+    number: u32,
+    count: u8,
+    vars: &mut Bindings,
+    seen: &mut Index,
+    used: &[Channel],
+    potential: &Option<Lin>,
+    provided: &Channel,
+) -> Result<Decl, NameErr>
+    ensures { Gives {X = Decl} (used_types known.now name.now vars.old seen.old used.now then λ r. potential_of name.now vars.old potential.now then λ p. unless_among provided.now.name r.1 then λ u. type_of known.now name.now provided.now.body vars.old then λ a. Ok (record { name = number; params = count; uses = r.0; potential = p; gives = a; body = body_start known.now name.now })) result }
+{
+    let uses = used_types(alloc, known, name, vars, seen, used)?;
+    let potential = potential_of(alloc, name, vars, potential)?;
+    unless_among(alloc, &provided.name, seen)?;
+    let gives = type_of(alloc, known, name, vars, &provided.body)?;
+    Ok(Decl {
+        name: number,
+        params: count,
+        uses,
+        potential,
+        gives,
+        body: known.body_start(name),
     })
 }
 
@@ -142,25 +249,49 @@ fn decl_of(
 ) -> Result<Part, NameErr>
     ensures { Gives (decl_of known.now name.now params.now used.now potential.now provided.now) result }
 {
+    let number = known.number(name)?;
+    let said = decl_said(alloc, known, params, used, provided)?;
+    let channels = channel_names(alloc, known, &provided.name, used)?;
     let mut vars = params_of(alloc, name, params)?;
+    let many = vars.len();
     let mut seen = Index::new(alloc);
-    let uses = used_types(alloc, known, name, &mut vars, &mut seen, used)?;
-    let potential = potential_of(alloc, name, &vars, potential)?;
-    unless_among(alloc, &provided.name, &seen)?;
-    let gives = type_of(alloc, known, name, &mut vars, &provided.body)?;
-    let decl = Decl {
-        name: known.number(name)?,
-        params: vars.len() as u8,
-        uses,
-        potential,
-        gives,
-        body: known.body_start(name),
-    };
-    Ok(Part::Decl {
-        decl,
-        said: decl_said(alloc, known, params, used, provided)?,
-        channels: channel_names(alloc, known, &provided.name, used)?,
-    })
+    match header_of(
+        alloc, known, name, number, many as u8, &mut vars, &mut seen, used, potential, provided,
+    ) {
+        Ok(decl) => {
+            drop(seen);
+            drop(vars);
+            Ok(Part::Decl {
+                decl,
+                said,
+                channels,
+            })
+        }
+        Err(e) => {
+            drop(seen);
+            drop(vars);
+            drop(said);
+            drop(channels);
+            Err(e)
+        }
+    }
+}
+
+// The nodes of the body of this name, at a place.
+fn nodes_in(
+    alloc: Global,
+    known: &Known,
+    name: &Name,
+    place: Place,
+    written: &Proc,
+) -> Result<Items<Node>, NameErr>
+    ensures { Gives (nodes_of known.now name.now written.now place (body_start known.now name.now)) result }
+{
+    let mut place = place;
+    let start = known.body_start(name);
+    let made = nodes_of(alloc, known, name, &mut place, start, written);
+    drop(place);
+    made
 }
 
 fn body_of(
@@ -176,20 +307,90 @@ fn body_of(
 {
     if_counted(alloc, known, name, params.len(), used.len())?;
     let vars = params_of(alloc, name, params)?;
-    let channels = header_channels(alloc, name, provided, used)?;
-    let mut place = Place { vars, channels };
-    let nodes = nodes_of(
-        alloc,
-        known,
-        name,
-        &mut place,
-        known.body_start(name),
-        written,
-    )?;
-    Ok(Part::Body {
-        place: known.decls.place(name),
-        nodes,
-    })
+    match header_channels(alloc, name, provided, used) {
+        Ok(channels) => {
+            let place = Place { vars, channels };
+            let nodes = nodes_in(alloc, known, name, place, written)?;
+            Ok(Part::Body {
+                place: known.decls.place(name),
+                nodes,
+            })
+        }
+        Err(e) => {
+            drop(vars);
+            Err(e)
+        }
+    }
+}
+
+// The types of both sides, and the references.
+fn both_sides(
+    alloc: Global,
+    known: &Known,
+    item: &Name,
+    vars: &mut Bindings,
+    left: &TypeExpr,
+    right: &TypeExpr,
+    by: &Option<By>,
+) -> Result<(Ty, Ty, Items<Ref>), NameErr>
+    ensures { Gives (type_of known.now item.now left.now vars.old then λ x. type_of known.now item.now right.now vars.old then λ y. refs_of item.now vars.old by.now then λ rs. Ok (x, y, rs)) result }
+{
+    let left = Boxed::new(alloc, type_of(alloc, known, item, vars, left)?)?;
+    let right = Boxed::new(alloc, type_of(alloc, known, item, vars, right)?)?;
+    let refs = references(alloc, item, vars, by)?;
+    Ok((left.into_inner(), right.into_inner(), refs))
+}
+
+// An equation of an item of this name, over these variables, so many.
+fn equation_over(
+    alloc: Global,
+    known: &Known,
+    item: &Name,
+    vars: &mut Bindings,
+    count: u8,
+    premise: &Option<Form>,
+    left: &TypeExpr,
+    right: &TypeExpr,
+    by: &Option<By>,
+) -> Result<Part, NameErr>
+    ensures { Gives (premise_of item.now vars.old premise.now then λ g. type_of known.now item.now left.now vars.old then λ x. type_of known.now item.now right.now vars.old then λ y. refs_of item.now vars.old by.now then λ rs. Ok (part.Equation (record { vars = count; premise = g; left = x; right = y; refs = rs }))) result }
+{
+    let premise = premise_of(alloc, item, vars, premise)?;
+    match both_sides(alloc, known, item, vars, left, right, by) {
+        Ok((left, right, refs)) => Ok(Part::Equation(Equation {
+            vars: count,
+            premise,
+            left,
+            right,
+            refs,
+        })),
+        Err(e) => {
+            drop(premise);
+            Err(e)
+        }
+    }
+}
+
+// An equation of an item of this name.
+fn equation_by(
+    alloc: Global,
+    known: &Known,
+    item: &Name,
+    params: &[Name],
+    premise: &Option<Form>,
+    left: &TypeExpr,
+    right: &TypeExpr,
+    by: &Option<By>,
+) -> Result<Part, NameErr>
+    ensures { Gives (equation_of known.now item.now params.now premise.now left.now right.now by.now) result }
+{
+    let mut vars = params_of(alloc, item, params)?;
+    let many = vars.len();
+    let made = equation_over(
+        alloc, known, item, &mut vars, many as u8, premise, left, right, by,
+    );
+    drop(vars);
+    made
 }
 
 fn equation_of(
@@ -204,18 +405,9 @@ fn equation_of(
     ensures { Gives (equation_of known.now (codes "equation") params.now premise.now left.now right.now by.now) result }
 {
     let item = Name::new(alloc, b"equation")?;
-    let mut vars = params_of(alloc, &item, params)?;
-    let premise = premise_of(alloc, &item, &vars, premise)?;
-    let left = type_of(alloc, known, &item, &mut vars, left)?;
-    let right = type_of(alloc, known, &item, &mut vars, right)?;
-    let refs = references(alloc, &item, &vars, by)?;
-    Ok(Part::Equation(Equation {
-        vars: vars.len() as u8,
-        premise,
-        left,
-        right,
-        refs,
-    }))
+    let made = equation_by(alloc, known, &item, params, premise, left, right, by);
+    drop(item);
+    made
 }
 
 fn main_of(alloc: Global, known: &Known, seen: &Seen, name: &Name) -> Result<Part, NameErr>

@@ -1,6 +1,6 @@
 // The program of a file.
 ghost use Rattle.std.specs.Prelude.{length};
-ghost use Rattle.rast_resolve.specs.Answers.{Gives};
+ghost use Rattle.rast_resolve.specs.Answers.{Gives, Makes, ◌>>=◌ as ◌then◌};
 ghost use Rattle.rast_resolve.specs.Programs.{none_seen, no_entries, tables_of, paired, runnable, none_fails, program_with, resolved};
 
 use crate::facts::known_of;
@@ -22,18 +22,41 @@ pub struct Resolved {
     pub explicit: bool,
 }
 
+// Adds what the items add, after those that are seen.
+fn add_items(
+    alloc: Global,
+    known: &Known,
+    seen: &mut Seen,
+    tables: &mut Tables,
+    items: &[Item],
+) -> Result<(), NameErr>
+    ensures { Makes (tables_of known.now seen.old tables.old items.now) result tables.new }
+{
+    for item in items {
+        let part = part_of(alloc, known, seen, item)?;
+        tables.add(part)?;
+        seen.add(alloc, item)?;
+    }
+    Ok(())
+}
+
 // The tables of the items.
 fn tables_of(alloc: Global, known: &Known, items: &[Item]) -> Result<Tables, NameErr>
     ensures { Gives (tables_of known.now none_seen (no_entries (length known.now.decls)) items.now) result }
 {
-    let mut seen = Seen::none(alloc);
     let mut tables = Tables::new(alloc, known.decls.len())?;
-    for item in items {
-        let part = part_of(alloc, known, &seen, item)?;
-        tables.add(part)?;
-        seen.add(alloc, item)?;
+    let mut seen = Seen::none(alloc);
+    match add_items(alloc, known, &mut seen, &mut tables, items) {
+        Ok(()) => {
+            drop(seen);
+            Ok(tables)
+        }
+        Err(e) => {
+            drop(seen);
+            drop(tables);
+            Err(e)
+        }
     }
-    Ok(tables)
 }
 
 // A declaration has a body, and a body a declaration.
@@ -96,14 +119,32 @@ fn all_runnable(alloc: Global, known: &Known, items: &[Item]) -> Result<(), Name
     Ok(())
 }
 
+// The items are paired, and what is executed may be.
+fn all_sound(alloc: Global, known: &Known, items: &[Item]) -> Result<(), NameErr>
+    ensures { Gives (none_fails (paired known.now) items.now then λ u. none_fails (runnable known.now) items.now) result }
+{
+    all_paired(alloc, known, items)?;
+    all_runnable(alloc, known, items)
+}
+
 // The program of these items, of which this is known.
 fn program_of(alloc: Global, known: Known, items: &[Item]) -> Result<Program, NameErr>
     ensures { Gives (program_with known items.now) result }
 {
-    let tables = tables_of(alloc, &known, items)?;
-    all_paired(alloc, &known, items)?;
-    all_runnable(alloc, &known, items)?;
-    Ok(tables.into_program(alloc, known)?)
+    match tables_of(alloc, &known, items) {
+        Ok(tables) => match all_sound(alloc, &known, items) {
+            Ok(()) => Ok(tables.into_program(alloc, known)?),
+            Err(e) => {
+                drop(tables);
+                drop(known);
+                Err(e)
+            }
+        },
+        Err(e) => {
+            drop(known);
+            Err(e)
+        }
+    }
 }
 
 /// The program that a file says, in which names are numbers: names of its tables in the order of their first occurrence,

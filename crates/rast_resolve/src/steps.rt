@@ -1,5 +1,5 @@
 // Steps of process terms.
-ghost use Rattle.std.specs.Prelude.{false, Ok};
+ghost use Rattle.std.specs.Prelude.{◌≡◌, false, Ok, IfOk, OnOk};
 ghost use Rattle.rast_terms.specs.declared.node.Node.TheVariants as node;
 ghost use Rattle.rast_resolve.specs.Answers.{Leaves, ◌>>=◌ as ◌then◌};
 ghost use Rattle.rast_resolve.specs.Scopes.{number_in};
@@ -13,7 +13,7 @@ use crate::linears::linear;
 use crate::place::Place;
 use rast_ast::{By, Lin as Written, Name, Step};
 use rast_terms::Node;
-use std::alloc::Global;
+use std::alloc::{AllocError, Global};
 
 fn label_step(
     alloc: Global,
@@ -94,6 +94,21 @@ fn bind_step(
     Ok(Node::Bind { x, name, next })
 }
 
+// The number of a name, which is bound as a channel.
+fn bound_number(
+    alloc: Global,
+    known: &Known,
+    place: &mut Place,
+    bound: &Name,
+) -> Result<u32, AllocError>
+    ensures number { IfOk result (λ name. name ≡ number_in known.now.names bound.now) }
+    ensures bound { OnOk result (place.new ≡ with_channel bound.now place.old) }
+{
+    let name = known.number(bound)?;
+    place.bind_channel(alloc, bound)?;
+    Ok(name)
+}
+
 // The step that spawns what is called.
 fn spawn_step(
     alloc: Global,
@@ -105,16 +120,20 @@ fn spawn_step(
 ) -> Result<Node, NameErr>
     ensures { Leaves (Ok (node.Spawn (number_in known.now.names bound.now) callee.decl callee.args callee.ys callee.refs next, with_channel bound.now place.old)) result place.new }
 {
-    let name = known.number(bound)?;
-    place.bind_channel(alloc, bound)?;
-    Ok(Node::Spawn {
-        name,
-        decl: callee.decl,
-        args: callee.args,
-        ys: callee.ys,
-        refs: callee.refs,
-        next,
-    })
+    match bound_number(alloc, known, place, bound) {
+        Ok(name) => Ok(Node::Spawn {
+            name,
+            decl: callee.decl,
+            args: callee.args,
+            ys: callee.ys,
+            refs: callee.refs,
+            next,
+        }),
+        Err(_) => {
+            drop(callee);
+            Err(NameErr::Memory)
+        }
+    }
 }
 
 fn work_step(

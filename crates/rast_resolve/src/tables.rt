@@ -82,18 +82,40 @@ impl Tables {
     pub fn into_program(self, alloc: Global, known: Known) -> Result<Program, AllocError>
         ensures { IfOk result (λ program. program ≡ program_of known self) }
     {
-        Ok(Program {
-            names: known.names.into_names(),
-            types: TypeTable { defs: self.defs },
-            decls: self.decls,
-            equations: self.equations,
-            nodes: self.bodies.into_nodes(alloc)?,
-            main: self.main,
-            said: Said {
-                types: self.def_said,
-                decls: self.decl_said,
-                channels: self.channels,
-            },
-        })
+        let Tables {
+            defs,
+            def_said,
+            decls,
+            decl_said,
+            channels,
+            equations,
+            bodies,
+            main,
+        } = self;
+        match bodies.into_nodes(alloc) {
+            Ok(nodes) => Ok(Program {
+                names: known.into_names(),
+                types: TypeTable { defs },
+                decls,
+                equations,
+                nodes,
+                main,
+                said: Said {
+                    types: def_said,
+                    decls: decl_said,
+                    channels,
+                },
+            }),
+            Err(e) => {
+                drop(known);
+                drop(defs);
+                drop(def_said);
+                drop(decls);
+                drop(decl_said);
+                drop(channels);
+                drop(equations);
+                Err(e)
+            }
+        }
     }
 }

@@ -1,5 +1,5 @@
 // Process terms.
-ghost use Rattle.std.specs.Prelude.{◌≡◌, ◌+◌, ◌∷◌, [], map, Ok, IfOk, OnOk};
+ghost use Rattle.std.specs.Prelude.{◌≡◌, ◌+◌, ◌∷◌, ◌++◌, [], length, map, Ok, IfOk, OnOk};
 ghost use Rattle.rast_terms.specs.declared.node.Node.TheVariants as node;
 ghost use Rattle.rast_resolve.specs.Answers.{Gives, Leaves, ◌>>=◌ as ◌then◌};
 ghost use Rattle.rast_resolve.specs.Bodies.{channel_of, refs_of, callee_of, steps_of, nodes_of, term_nodes, end_of, branch_of, branches_of};
@@ -226,6 +226,42 @@ fn case_of(
     Ok(nodes)
 }
 
+// A branch before others: its label's number with its first node, and its nodes.
+fn before(
+    alloc: Global,
+    head: (u32, u32),
+    nodes: Items<Node>,
+    heads: Items<(u32, u32)>,
+    below: Items<Node>,
+) -> Result<(Items<(u32, u32)>, Items<Node>), AllocError>
+    ensures { IfOk result (λ r. (r.0 ≡ head ∷ heads) × (r.1 ≡ nodes ++ below)) }
+{
+    let mut all_heads = Items::new(alloc);
+    let mut all_nodes = nodes;
+    all_heads.push(head)?;
+    all_heads.append(heads)?;
+    all_nodes.append(below)?;
+    Ok((all_heads, all_nodes))
+}
+
+// A branch behind others: its label's number with its first node, and its nodes. The number of the next node is given.
+fn put_branch(
+    heads: &mut Items<(u32, u32)>,
+    nodes: &mut Items<Node>,
+    number: u32,
+    at: u32,
+    more: Items<Node>,
+) -> Result<u32, AllocError>
+    ensures heads { OnOk result (heads.new ≡ heads.old ++ (number, at) ∷ []) }
+    ensures nodes { OnOk result (nodes.new ≡ nodes.old ++ more) }
+    ensures next { IfOk result (λ next. next ≡ at + length more) }
+{
+    let next = after(at, more.len())?;
+    heads.push((number, at))?;
+    nodes.append(more)?;
+    Ok(next)
+}
+
 // The branches of a case: the labels' numbers with the first nodes, and all nodes, the first of which has the number `at`.
 #[cycle(term)]
 fn cases(
@@ -240,16 +276,21 @@ fn cases(
     ensures gives { Gives (branches_of known.now.names [] (map (branch_of known.now item.now) (first.now ∷ rest.now)) place.old at) result }
     ensures kept { OnOk result (place.new ≡ place.old) }
 {
-    let mut seen = Index::new(alloc);
-    let mut heads = Items::new(alloc);
-    seen.push(alloc, &first.label)?;
-    let mut nodes = nodes_of(alloc, known, item, place, at, &first.body)?;
-    heads.push((known.number(&first.label)?, at))?;
+    let number = known.number(&first.label)?;
+    let nodes = nodes_of(alloc, known, item, place, at, &first.body)?;
     let here = after(at, nodes.len())?;
-    let (more, below) = branches(alloc, known, item, place, here, &mut seen, rest)?;
-    heads.append(more)?;
-    nodes.append(below)?;
-    Ok((heads, nodes))
+    let mut seen = Index::alone(alloc, &first.label)?;
+    match branches(alloc, known, item, place, here, &mut seen, rest) {
+        Ok((more, below)) => {
+            drop(seen);
+            Ok(before(alloc, (number, at), nodes, more, below)?)
+        }
+        Err(e) => {
+            drop(seen);
+            drop(nodes);
+            Err(e)
+        }
+    }
 }
 
 // The same of further branches, with none of the labels that the case has already.
@@ -274,10 +315,9 @@ fn branches(
             return Err(twice(alloc, &branch.label));
         }
         seen.push(alloc, &branch.label)?;
+        let number = known.number(&branch.label)?;
         let more = nodes_of(alloc, known, item, place, here, &branch.body)?;
-        heads.push((known.number(&branch.label)?, here))?;
-        here = after(here, more.len())?;
-        nodes.append(more)?;
+        here = put_branch(&mut heads, &mut nodes, number, here, more)?;
     }
     Ok((heads, nodes))
 }

@@ -54,14 +54,14 @@ pub(crate) fn type_of(
         TypeExpr::Prefixed(prefix, body) => prefixed(alloc, known, item, vars, prefix, body.get()),
         TypeExpr::Atom(a) => atom(alloc, known, item, vars, a),
         TypeExpr::Tensor(a, b) => {
-            let a = atom(alloc, known, item, vars, a)?;
-            let b = type_of(alloc, known, item, vars, b.get())?;
-            Ok(Ty::Tensor(Boxed::new(alloc, a)?, Boxed::new(alloc, b)?))
+            let a = Boxed::new(alloc, atom(alloc, known, item, vars, a)?)?;
+            let b = Boxed::new(alloc, type_of(alloc, known, item, vars, b.get())?)?;
+            Ok(Ty::Tensor(a, b))
         }
         TypeExpr::Lolli(a, b) => {
-            let a = atom(alloc, known, item, vars, a)?;
-            let b = type_of(alloc, known, item, vars, b.get())?;
-            Ok(Ty::Lolli(Boxed::new(alloc, a)?, Boxed::new(alloc, b)?))
+            let a = Boxed::new(alloc, atom(alloc, known, item, vars, a)?)?;
+            let b = Boxed::new(alloc, type_of(alloc, known, item, vars, b.get())?)?;
+            Ok(Ty::Lolli(a, b))
         }
     }
 }
@@ -80,44 +80,58 @@ fn prefixed(
     ensures kept { OnOk result (vars.new ≡ vars.old) }
 {
     match prefix {
-        Prefix::Ex(name) => {
-            let a = below(alloc, known, item, vars, name, body)?;
-            Ok(Ty::Ex(Boxed::new(alloc, a)?))
-        }
-        Prefix::All(name) => {
-            let a = below(alloc, known, item, vars, name, body)?;
-            Ok(Ty::All(Boxed::new(alloc, a)?))
-        }
+        Prefix::Ex(name) => Ok(Ty::Ex(below(alloc, known, item, vars, name, body)?)),
+        Prefix::All(name) => Ok(Ty::All(below(alloc, known, item, vars, name, body)?)),
         Prefix::Assert(form) => {
             let f = formula(alloc, item, vars, form)?;
-            let a = type_of(alloc, known, item, vars, body)?;
-            Ok(Ty::Assert(f, Boxed::new(alloc, a)?))
+            match boxed(alloc, known, item, vars, body) {
+                Ok(a) => Ok(Ty::Assert(f, a)),
+                Err(e) => {
+                    drop(f);
+                    Err(e)
+                }
+            }
         }
         Prefix::Assume(form) => {
             let f = formula(alloc, item, vars, form)?;
-            let a = type_of(alloc, known, item, vars, body)?;
-            Ok(Ty::Assume(f, Boxed::new(alloc, a)?))
+            match boxed(alloc, known, item, vars, body) {
+                Ok(a) => Ok(Ty::Assume(f, a)),
+                Err(e) => {
+                    drop(f);
+                    Err(e)
+                }
+            }
         }
         Prefix::Pays(l) => {
             let p = linear(alloc, item, false, vars, l)?;
-            let a = type_of(alloc, known, item, vars, body)?;
-            Ok(Ty::Pays(p, Boxed::new(alloc, a)?))
+            Ok(Ty::Pays(p, boxed(alloc, known, item, vars, body)?))
         }
         Prefix::Gets(l) => {
             let p = linear(alloc, item, false, vars, l)?;
-            let a = type_of(alloc, known, item, vars, body)?;
-            Ok(Ty::Gets(p, Boxed::new(alloc, a)?))
+            Ok(Ty::Gets(p, boxed(alloc, known, item, vars, body)?))
         }
-        Prefix::NextOne => {
-            let a = type_of(alloc, known, item, vars, body)?;
-            Ok(Ty::Next(constant(1), Boxed::new(alloc, a)?))
-        }
+        Prefix::NextOne => Ok(Ty::Next(constant(1), boxed(alloc, known, item, vars, body)?)),
         Prefix::Next(l) => {
             let t = linear(alloc, item, false, vars, l)?;
-            let a = type_of(alloc, known, item, vars, body)?;
-            Ok(Ty::Next(t, Boxed::new(alloc, a)?))
+            Ok(Ty::Next(t, boxed(alloc, known, item, vars, body)?))
         }
     }
+}
+
+// A type in a box.
+#[cycle(type_of)]
+fn boxed(
+    alloc: Global,
+    known: &Known,
+    item: &Name,
+    vars: &mut Bindings,
+    written: &TypeExpr,
+) -> Result<Boxed<Ty>, NameErr>
+    ensures gives { Gives (type_of known.now item.now written.now vars.old) result }
+    ensures kept { OnOk result (vars.new ≡ vars.old) }
+{
+    let a = type_of(alloc, known, item, vars, written)?;
+    Ok(Boxed::new(alloc, a)?)
 }
 
 // A type below a quantifier.
@@ -129,13 +143,13 @@ fn below(
     vars: &mut Bindings,
     name: &Name,
     body: &TypeExpr,
-) -> Result<Ty, NameErr>
+) -> Result<Boxed<Ty>, NameErr>
     ensures gives { Gives (type_of known.now item.now body.now (vars.old ++ name.now ∷ [])) result }
     ensures kept { OnOk result (vars.new ≡ vars.old) }
 {
     let outer = vars.len();
     vars.push(alloc, name)?;
-    let a = type_of(alloc, known, item, vars, body)?;
+    let a = boxed(alloc, known, item, vars, body)?;
     vars.truncate(outer);
     Ok(a)
 }
@@ -177,17 +191,21 @@ fn choice(
     ensures gives { Gives (choice_of known.now item.now written.now vars.old) result }
     ensures kept { OnOk result (vars.new ≡ vars.old) }
 {
-    let mut seen = Index::new(alloc);
-    let mut parts = Items::new(alloc);
-    seen.push(alloc, &written.label)?;
+    let number = known.number(&written.label)?;
     let first = type_of(alloc, known, item, vars, &written.body)?;
-    parts.push((known.number(&written.label)?, first))?;
+    let mut parts = Items::new(alloc);
+    parts.push((number, first))?;
+    let mut seen = Index::alone(alloc, &written.label)?;
     match choices(alloc, known, item, vars, &mut seen, written.rest.as_slice()) {
         Ok(rest) => {
+            drop(seen);
             parts.append(rest)?;
             Ok(parts)
         }
-        Err(e) => Err(e),
+        Err(e) => {
+            drop(seen);
+            Err(e)
+        }
     }
 }
 
@@ -210,8 +228,9 @@ fn choices(
             return Err(twice(alloc, label));
         }
         seen.push(alloc, label)?;
+        let number = known.number(label)?;
         let a = type_of(alloc, known, item, vars, body)?;
-        parts.push((known.number(label)?, a))?;
+        parts.push((number, a))?;
     }
     Ok(parts)
 }

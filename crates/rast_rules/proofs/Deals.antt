@@ -1,5 +1,5 @@
 -- How references are dealt out to what is asked.
-use Rattle.std.proofs.Common.{◌≡◌, ℕ, Bool, true, false, ◌||◌, ◌&&◌, if◌then◌else◌, List, [], ◌∷◌, ◌++◌, map, length, Option, Some, None, ◌∙◌, ap, ap₂, refl, arith}
+use Rattle.std.proofs.Common.{◌≡◌, ℕ, Bool, true, false, ◌||◌, if◌then◌else◌, List, [], ◌∷◌, ◌++◌, map, length, Option, Some, None, ◌∙◌, ap, ap₂, refl, arith}
 use Rattle.std.proofs.lemmas.List.{take_all}
 use Rattle.rast_index.specs.Truth.{all_small}
 use Rattle.rast_index.specs.declared.formula.Formula.{Formula}

@@ -1,7 +1,7 @@
 -- The channels of a child.
 use Rattle.std.proofs.Common.{◌≡◌, ℕ, zero, suc, ◌+◌, ◌-◌, ◌<◌, ◌≤◌, min, Bool, true, false, not, ◌||◌, ◌&&◌, ◌==◌, if◌then◌else◌, List, [], ◌∷◌, ◌++◌, map, length, take, drop, get_or, Option, Some, None, Result, Ok, Err, sym, ◌∙◌, ap, ap₂, refl, arith, add-one, eq-eqb, Bor, append_assoc, inl, inr, ◌⊎◌}
 use Rattle.std.proofs.lemmas.Bool.{ne_eqb, eqb-true}
-use Rattle.std.specs.Prelude.{filter, IfOk}
+use Rattle.std.specs.Prelude.{IfOk}
 use Rattle.std.specs.List.{list_any, list_all}
 use Rattle.std.proofs.lemmas.List.{append-nil, take_all, map-append, length-map, length-append, length-drop}
 use Rattle.std.proofs.lemmas.List.Elements.{filter-append}
@@ -10,7 +10,6 @@ use Rattle.std.proofs.lemmas.List.Folds.{list_any-append, list_all-append}
 use Rattle.rast_index.specs.Keys.{find_key, set_key}
 use Rattle.rast_index.specs.Linear.{Linear, variables}
 use Rattle.rast_types.specs.declared.stop.Stop.{Stop}
-use Rattle.rast_types.specs.declared.stop.Stop.TheVariants as stop
 use Rattle.rast_types.specs.declared.ty.Ty.{Ty}
 use Rattle.rast_types.specs.Symbolic.{within, is_deep, is_small_type, made_type, put_type}
 use Rattle.rast_rules.specs.Rules.{Judgement, with_type, without, with_variable, with_channel}

@@ -10,7 +10,6 @@ use Rattle.rast_types.specs.declared.ty.Ty.{Ty}
 use Rattle.rast_types.specs.declared.stop.Stop.TheVariants as stop
 use Rattle.rast_rules.specs.declared.premise.Premise.{Premise}
 use Rattle.rast_rules.specs.declared.premise.Premise.TheVariants.{Truth, Passed}
-use Rattle.rast_rules.specs.declared.premise.Evidence.TheVariants as why
 use Rattle.rast_rules.specs.Rules.{Askings, is_alike, premise_of, stops, until_stop}
 
 abbrev pub any_stops : List (ℕ × Premise) → Bool

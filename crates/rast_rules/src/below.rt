@@ -61,7 +61,9 @@ fn children_of(
     match Touch::of(node) {
         Some(touch) => {
             let head = head_at(alloc, program, at, touch.x)?;
-            below(alloc, program, at, node, &head)
+            let children = below(alloc, program, at, node, &head);
+            drop(head);
+            children
         }
         None => below(alloc, program, at, node, &Ty::One),
     }
@@ -248,16 +250,21 @@ fn with_channel(
         gives,
         fresh: _,
     } = draft;
-    let uses = joined(uses, at.fresh, made)?;
-    Ok(Draft {
-        vars,
-        uses,
-        count: one_more(count),
-        potential,
-        provided,
-        gives,
-        fresh: at.fresh as usize + 1,
-    })
+    match joined(uses, at.fresh, made) {
+        Ok(uses) => Ok(Draft {
+            vars,
+            uses,
+            count: one_more(count),
+            potential,
+            provided,
+            gives,
+            fresh: at.fresh as usize + 1,
+        }),
+        Err(error) => {
+            drop(gives);
+            Err(error)
+        }
+    }
 }
 
 fn below_recv(
@@ -269,9 +276,16 @@ fn below_recv(
     ensures { IfOk result (λ cs. cs ≡ limited (with_channel (with_type at.now x (second_of_pair head.now)) (first_of_pair head.now)) ∷ []) }
 {
     let draft = goes_on(alloc, at, &[], x, second_of_pair(head))?;
-    let first = part_within(alloc, at.ctx.vars, first_of_pair(head))?;
-    let draft = with_channel(alloc, at, draft, first)?;
-    only(alloc, at, draft, &[])
+    match part_within(alloc, at.ctx.vars, first_of_pair(head)) {
+        Ok(first) => {
+            let wider = with_channel(alloc, at, draft, first)?;
+            only(alloc, at, wider, &[])
+        }
+        Err(error) => {
+            drop(draft);
+            Err(error)
+        }
+    }
 }
 
 // The variables in scope.
@@ -300,7 +314,22 @@ fn below_index(
     }
     let mut terms = variables(alloc, at.ctx.vars)?;
     terms.push(value.again())?;
-    let part = put_part(alloc, at.ctx.vars, inner_of(head), terms.as_slice())?;
+    let children = below_terms(alloc, at, x, inner_of(head), terms.as_slice());
+    drop(terms);
+    children
+}
+
+// One channel goes on at a type in which terms stand for its variables.
+fn below_terms(
+    alloc: Global,
+    at: &Judgement,
+    x: u32,
+    part: Option<&Ty>,
+    terms: &[Lin],
+) -> Result<Items<Result<Judgement, Stop>>, AllocError>
+    ensures { (a : Ty) → MatchOption part.entry (a ≡ type.One) (λ b. a ≡ b.now) → IfOk result (λ cs. cs ≡ limited (with_type at.now x (put_type at.now.ctx.vars terms.now a)) ∷ []) }
+{
+    let part = put_part(alloc, at.ctx.vars, part, terms)?;
     let draft = change_at(alloc, at, at.ctx.vars, None, &[], x, part)?;
     only(alloc, at, draft, &[])
 }
@@ -340,10 +369,26 @@ fn below_bind(
     if at.ctx.vars >= 16 {
         return too_many(alloc);
     }
-    let vars = at.ctx.vars + 1;
     let terms = variables(alloc, at.ctx.vars)?;
-    let part = part_within(alloc, vars, inner_of(head))?;
-    let draft = change_at(alloc, at, vars, Some(terms.as_slice()), &[], x, part)?;
+    let children = below_wider(alloc, at, x, inner_of(head), terms.as_slice());
+    drop(terms);
+    children
+}
+
+// One channel goes on at a type in a scope of one more variable, where these terms are the variables before it.
+fn below_wider(
+    alloc: Global,
+    at: &Judgement,
+    x: u32,
+    part: Option<&Ty>,
+    terms: &[Lin],
+) -> Result<Items<Result<Judgement, Stop>>, AllocError>
+    requires { at.now.ctx.vars < 16 }
+    ensures { (a : Ty) → terms.now ≡ variables at.now.ctx.vars → MatchOption part.entry (a ≡ type.One) (λ b. a ≡ b.now) → IfOk result (λ cs. cs ≡ limited (with_type (with_variable at.now) x a) ∷ []) }
+{
+    let vars = at.ctx.vars + 1;
+    let part = part_within(alloc, vars, part)?;
+    let draft = change_at(alloc, at, vars, Some(terms), &[], x, part)?;
     only(alloc, at, draft, &[])
 }
 
@@ -368,8 +413,18 @@ fn below_assume(
     ensures { IfOk result (λ cs. cs ≡ limited (with_premise (with_type at.now x (inner_of head.now)) (formula_of head.now)) ∷ []) }
 {
     let draft = goes_on(alloc, at, &[], x, inner_of(head))?;
-    let formula = formula_of(alloc, head)?;
-    only(alloc, at, draft, &[formula])
+    match formula_of(alloc, head) {
+        Ok(formula) => {
+            let more = [formula];
+            let children = only(alloc, at, draft, &more);
+            drop(more);
+            children
+        }
+        Err(error) => {
+            drop(draft);
+            Err(error)
+        }
+    }
 }
 
 // The same draft with another potential.
@@ -386,7 +441,10 @@ fn rest(have: &Lin, want: &Lin) -> Result<Lin, Stop>
     ensures { result ≡ made_term (less have.now want.now) }
 {
     match spends(have, want) {
-        Ok((_enough, rest)) => Ok(rest),
+        Ok((enough, rest)) => {
+            drop(enough);
+            Ok(rest)
+        }
         Err(_) => Err(Stop::Coefficient),
     }
 }
@@ -485,9 +543,16 @@ fn spawned(
         draft,
         handed(&at.potential, put_term(&callee.potential, args)),
     );
-    let made = put_within(alloc, at.ctx.vars, &callee.gives, args)?;
-    let draft = with_channel(alloc, at, draft, made)?;
-    only(alloc, at, draft, &[])
+    match put_within(alloc, at.ctx.vars, &callee.gives, args) {
+        Ok(made) => {
+            let wider = with_channel(alloc, at, draft, made)?;
+            only(alloc, at, wider, &[])
+        }
+        Err(error) => {
+            drop(draft);
+            Err(error)
+        }
+    }
 }
 
 // What is left of a potential when another, which is small, is handed over.

@@ -1,10 +1,14 @@
 // The premises of a spawn and of a call.
-ghost use Rattle.std.specs.Prelude.{◌≡◌, ◌∷◌, [], ◌++◌, ◌≤◌, ◌<◌, ◌+◌, ◌&&◌, not, nat_eq, if◌then◌else◌, map, zip, length, drop, min, slice_get, Some, OnOk, IfOk, is_some};
+ghost use Rattle.std.specs.Prelude.{◌≡◌, ◌∷◌, [], ◌++◌, ◌≤◌, ◌<◌, ◌+◌, ◌&&◌, not, nat_eq, if◌then◌else◌, map, zip, length, drop, min, slice_get, Some, Ok, OnOk, IfOk, is_some};
+ghost use Rattle.rast_index.specs.Linear.{replaced};
+ghost use Rattle.rast_index.specs.Truth.{is_equal};
 ghost use Rattle.rast_equal.specs.Valid.{nonneg};
 ghost use Rattle.rast_equal.specs.Walk.{meets, count, top};
 ghost use Rattle.rast_types.specs.Symbolic.{made_type};
-ghost use Rattle.rast_rules.specs.Rules.{Askings, Is, Alike, deal, are_used, is_new, used_type, at_args, arg_asked, spawn_asked, call_asked, failure};
-ghost use Rattle.rast_rules.specs.Trail.{and_then, plain, asks_sameness};
+ghost use Rattle.rast_types.specs.declared.ty.Ty.{Ty};
+ghost use Rattle.rast_rules.specs.declared.premise.Evidence.TheVariants as evidence;
+ghost use Rattle.rast_rules.specs.Rules.{Askings, Is, Alike, deal, are_used, is_new, is_provided, used_type, or_one, at_args, arg_asked, spawn_asked, call_asked, failure};
+ghost use Rattle.rast_rules.specs.Trail.{and_then, plain, asks_sameness, truth_premise};
 
 use crate::channels::is_among;
 use crate::count::names_met;
@@ -92,18 +96,37 @@ fn ask_called(
     ensures { OnOk result (trail.new ≡ and_then trail.old (deal at.now.ctx.vars refs.now (call_asked at.now x args.now ys.now (Some callee.now)))) }
 {
     ask_nonneg(trail, 1, args)?;
-    trail.ask(2, linear(x, at.is_provided(x)))?;
+    ask_provided(at, x, trail)?;
     ask_used(at, 3, ys, trail)?;
     ask_none_left(at, 3, ys, trail)?;
+    ask_equal(at, callee, args, trail)?;
+    let uses = callee.uses.as_slice();
+    let served = ask_arguments(alloc, at, 5, uses, args, ys, refs, true, trail)?;
+    ask_result(alloc, at, &callee.gives, args, refs, served, trail)
+}
+
+// The channel is the one that is provided.
+fn ask_provided(at: &Judgement, x: u32, trail: &mut Trail) -> Result<(), AllocError>
+    ensures { OnOk result (trail.new ≡ and_then trail.old ((2, Premise.Shape (is_provided at.now x) (evidence.Linear x)) ∷ [])) }
+{
+    trail.ask(2, linear(x, at.is_provided(x)))
+}
+
+// The potential is the callee's at the arguments.
+fn ask_equal(
+    at: &Judgement,
+    callee: &Decl,
+    args: &[Lin],
+    trail: &mut Trail,
+) -> Result<(), AllocError>
+    ensures { OnOk result (trail.new ≡ and_then trail.old ((4, truth_premise (is_equal at.now.potential (replaced args.now callee.now.potential))) ∷ [])) }
+{
     let potential = compared(
         same_term(&at.potential),
         Rel::Eq,
         put_term(&callee.potential, args),
     );
-    trail.ask(4, potential)?;
-    let uses = callee.uses.as_slice();
-    let served = ask_arguments(alloc, at, 5, uses, args, ys, refs, true, trail)?;
-    ask_result(alloc, at, &callee.gives, args, refs, served, trail)
+    trail.ask(4, potential)
 }
 
 /// Each term is at least 0.
@@ -197,22 +220,63 @@ fn ask_argument(
     let made = put_within(alloc, at.ctx.vars, ty, args)?;
     match made {
         Ok(wanted) => {
-            let a = copy_or_end(alloc, at.used_type(y))?;
-            let share = share(&a, &wanted, at.ctx.vars, refs.len() - served, last);
-            let given = copy_refs(alloc, &refs[served..served + share])?;
-            trail.ask(
-                number,
-                Premise::Same {
-                    a,
-                    b: wanted,
-                    refs: given,
-                },
-            )?;
-            Ok(served + share)
+            let taken = ask_wanted(alloc, at, number, y, wanted, refs, served, last, trail)?;
+            Ok(taken)
         }
         Err(stop) => {
             trail.ask(number, Premise::Passed { stop })?;
             Ok(served)
+        }
+    }
+}
+
+// The same where the declared type at the arguments was made.
+fn ask_wanted(
+    alloc: Global,
+    at: &Judgement,
+    number: u8,
+    y: u32,
+    wanted: Ty,
+    refs: &[Ref],
+    served: usize,
+    last: bool,
+    trail: &mut Trail,
+) -> Result<usize, AllocError>
+    requires { served ≤ length refs.now }
+    ensures asks { IfOk result (λ taken. (more : Askings) (b : Ty) → made_type at.now.ctx.vars b ≡ Ok wanted → not (asks_sameness more) ≡ last → and_then trail.new (deal at.now.ctx.vars (drop taken refs.now) more) ≡ and_then trail.old (deal at.now.ctx.vars (drop served refs.now) ((number, Alike (or_one (used_type at.now y)) b (failure (made_type at.now.ctx.vars b))) ∷ more))) }
+    ensures few { IfOk result (λ taken. taken ≤ length refs.now) }
+{
+    match copy_or_end(alloc, at.used_type(y)) {
+        Ok(a) => {
+            let share = share(&a, &wanted, at.ctx.vars, refs.len() - served, last);
+            let given = &refs[served..served + share];
+            ask_same(alloc, number, a, wanted, given, trail)?;
+            Ok(served + share)
+        }
+        Err(error) => {
+            drop(wanted);
+            Err(error)
+        }
+    }
+}
+
+// Two types have to be the same by these references.
+fn ask_same(
+    alloc: Global,
+    number: u8,
+    a: Ty,
+    b: Ty,
+    refs: &[Ref],
+    trail: &mut Trail,
+) -> Result<(), AllocError>
+    ensures { OnOk result (trail.new ≡ and_then trail.old ((number, Premise.Same a b refs.now) ∷ [])) }
+{
+    match copy_refs(alloc, refs) {
+        Ok(refs) => trail.ask(number, Premise::Same { a, b, refs }),
+        Err(error) => {
+            drop(a);
+            drop(b);
+            Err(error)
         }
     }
 }
@@ -243,11 +307,13 @@ fn ask_result(
 {
     let made = put_within(alloc, at.ctx.vars, gives, args)?;
     match made {
-        Ok(given) => {
-            let b = at.gives.1.copy(alloc)?;
-            let refs = copy_refs(alloc, &refs[served..])?;
-            trail.ask(5, Premise::Same { a: given, b, refs })
-        }
+        Ok(given) => match at.gives.1.copy(alloc) {
+            Ok(b) => ask_same(alloc, 5, given, b, &refs[served..], trail),
+            Err(error) => {
+                drop(given);
+                Err(error)
+            }
+        },
         Err(stop) => trail.ask(5, Premise::Passed { stop }),
     }
 }

@@ -49,8 +49,13 @@ pub(crate) fn same(
 ) -> Result<Premise, AllocError>
     ensures { (c d : Ty) → MatchOption a.entry (c ≡ type.One) (λ x. c ≡ x.now) → MatchOption b.entry (d ≡ type.One) (λ x. d ≡ x.now) → IfOk result (λ p. p ≡ Premise.Same c d refs.now) }
 {
-    let a = copy_or_end(alloc, a)?;
-    let b = copy_or_end(alloc, b)?;
     let refs = copy_refs(alloc, refs)?;
-    Ok(Premise::Same { a, b, refs })
+    let a = copy_or_end(alloc, a)?;
+    match copy_or_end(alloc, b) {
+        Ok(b) => Ok(Premise::Same { a, b, refs }),
+        Err(error) => {
+            drop(a);
+            Err(error)
+        }
+    }
 }

@@ -44,19 +44,28 @@ pub(crate) fn finish(
     ensures { (j : Judgement) → draft ≡ drafted j → j.decl ≡ decl → j.ctx.premises ≡ (premises.now ++ more.now) → IfOk result (λ made. made ≡ limited j) }
 {
     if are_deep(&draft.uses) {
+        drop(draft);
         return Ok(Err(Stop::Variables));
     }
     if is_deep(&draft.gives) {
+        drop(draft);
         return Ok(Err(Stop::Variables));
     }
     if draft.count > 15 {
+        drop(draft);
         return Ok(Err(Stop::Channels));
     }
     if draft.fresh > u32::MAX as usize {
+        drop(draft);
         return Err(AllocError);
     }
-    let premises = both(alloc, premises, more)?;
-    Ok(assembled(decl, draft, premises))
+    match both(alloc, premises, more) {
+        Ok(premises) => Ok(assembled(decl, draft, premises)),
+        Err(error) => {
+            drop(draft);
+            Err(error)
+        }
+    }
 }
 
 // The judgement with these premises, where only numbers may be too large.
@@ -87,9 +96,18 @@ fn assembled(decl: u32, draft: Draft, premises: Items<Formula>) -> Result<Judgem
                 gives: (provided, ty),
                 fresh: fresh as u32,
             }),
-            Err(_) => Err(Stop::Coefficient),
+            Err(_) => {
+                drop(uses);
+                drop(ty);
+                drop(premises);
+                Err(Stop::Coefficient)
+            }
         },
-        Err(stop) => Err(stop),
+        Err(stop) => {
+            drop(potential);
+            drop(premises);
+            Err(stop)
+        }
     }
 }
 
@@ -103,9 +121,15 @@ fn made_types(
     match uses {
         Ok(uses) => match gives {
             Ok(ty) => Ok((uses, ty)),
-            Err(_) => Err(Stop::Coefficient),
+            Err(_) => {
+                drop(uses);
+                Err(Stop::Coefficient)
+            }
         },
-        Err(_) => Err(Stop::Coefficient),
+        Err(_) => {
+            drop(gives);
+            Err(Stop::Coefficient)
+        }
     }
 }
 

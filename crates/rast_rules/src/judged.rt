@@ -27,16 +27,37 @@ pub(crate) fn judgements(
     ensures sound { IfOk result (λ js. AreJudged program.now js) }
     ensures whole { IfOk result (λ js. AreAll program.now js) }
 {
+    let mut judged = nothing(alloc, program.nodes.len())?;
+    match add_all(alloc, program, &mut judged) {
+        Ok(()) => Ok(judged),
+        Err(error) => {
+            drop(judged);
+            Err(error)
+        }
+    }
+}
+
+// The judgements of all bodies and of all nodes below them.
+fn add_all(
+    alloc: Global,
+    program: &Program,
+    judged: &mut Items<Option<Judgement>>,
+) -> Result<(), AllocError>
+    requires accepted { IsAccepted program.now }
+    requires forest { IsForest program.now }
+    requires old { AreJudged program.now judged.old }
+    ensures sound { OnOk result (AreJudged program.now judged.new) }
+    ensures whole { OnOk result (AreAll program.now judged.new) }
+{
     let count = program.nodes.len();
     if count > u32::MAX as usize {
         return Err(AllocError);
     }
-    let mut judged = nothing(alloc, count)?;
-    add_bodies(alloc, program, &mut judged)?;
+    add_bodies(alloc, program, judged)?;
     for node in 0..count {
-        add_children(alloc, program, node as u32, &mut judged)?;
+        add_children(alloc, program, node as u32, judged)?;
     }
-    Ok(judged)
+    Ok(())
 }
 
 // No judgement yet.

@@ -74,7 +74,10 @@ fn shifted(alloc: Global, table: &TypeTable, vars: u8, by: &Lin, ty: &Ty) -> Res
     ensures { (provided : Bool) → Answers (made_type vars (after_delay table.now.defs vars by.now provided ty.now)) result }
 {
     match shift(alloc, table, vars, ty, by) {
-        Ok((_enough, shifted)) => Ok(shifted),
+        Ok((enough, shifted)) => {
+            drop(enough);
+            Ok(shifted)
+        }
         Err(e) => Err(e),
     }
 }

@@ -56,7 +56,10 @@ pub(crate) fn put_within(
 {
     let table = table_of(alloc, ty)?;
     let name = Ty::Named(0, copy_terms(alloc, args)?);
-    settled(unfold(alloc, &table, vars, &name))
+    let made = unfold(alloc, &table, vars, &name);
+    drop(name);
+    drop(table);
+    settled(made)
 }
 
 // A table whose only definition is this type.

@@ -1,10 +1,12 @@
 // The premises of a forward, of an end that is impossible, of work and of a delay.
-ghost use Rattle.std.specs.Prelude.{◌≡◌, ◌∷◌, [], ◌++◌, map, OnOk, ℕ};
-ghost use Rattle.rast_index.specs.Truth.{is_at_least};
+ghost use Rattle.std.specs.Prelude.{◌≡◌, ◌∷◌, [], ◌++◌, map, is_some, OnOk, ℕ};
+ghost use Rattle.rast_index.specs.Truth.{is_at_least, is_equal};
+ghost use Rattle.rast_index.specs.Linear.{nought};
 ghost use Rattle.rast_equal.specs.Valid.{nonneg};
 ghost use Rattle.rast_types.specs.Symbolic.{before_delay};
 ghost use Rattle.rast_terms.specs.Nodes.{refs_of};
-ghost use Rattle.rast_rules.specs.Rules.{deal, forward_asked, other_asked};
+ghost use Rattle.rast_rules.specs.declared.premise.Evidence.TheVariants as evidence;
+ghost use Rattle.rast_rules.specs.Rules.{deal, forward_asked, other_asked, is_provided, used_type, or_one};
 ghost use Rattle.rast_rules.specs.Trail.{and_then, truth_premise, delay_premise};
 
 use crate::calls::{ask_call, ask_spawn};
@@ -92,15 +94,42 @@ fn ask_forward(
 ) -> Result<(), AllocError>
     ensures { OnOk result (trail.new ≡ and_then trail.old (deal at.now.ctx.vars refs.now (forward_asked at.now x y))) }
 {
-    trail.ask(1, linear(x, at.is_provided(x)))?;
-    trail.ask(1, linear(y, at.used_type(y).is_some()))?;
+    ask_ends(at, x, y, trail)?;
     ask_none_left(at, 2, &[y], trail)?;
+    ask_empty(at, trail)?;
+    ask_alike(alloc, at, y, refs, trail)
+}
+
+// The one channel is provided, and the other is used.
+fn ask_ends(at: &Judgement, x: u32, y: u32, trail: &mut Trail) -> Result<(), AllocError>
+    ensures { OnOk result (trail.new ≡ and_then trail.old ((1, Premise.Shape (is_provided at.now x) (evidence.Linear x)) ∷ (1, Premise.Shape (is_some (used_type at.now y)) (evidence.Linear y)) ∷ [])) }
+{
+    trail.ask(1, linear(x, at.is_provided(x)))?;
+    trail.ask(1, linear(y, at.used_type(y).is_some()))
+}
+
+// No potential is left.
+fn ask_empty(at: &Judgement, trail: &mut Trail) -> Result<(), AllocError>
+    ensures { OnOk result (trail.new ≡ and_then trail.old ((3, Premise.Truth (is_equal at.now.potential nought)) ∷ [])) }
+{
     trail.ask(
         3,
         Premise::Truth {
             goal: empty(&at.potential),
         },
-    )?;
+    )
+}
+
+// The used channel's type is the one that is due.
+fn ask_alike(
+    alloc: Global,
+    at: &Judgement,
+    y: u32,
+    refs: &[Ref],
+    trail: &mut Trail,
+) -> Result<(), AllocError>
+    ensures { OnOk result (trail.new ≡ and_then trail.old ((4, Premise.Same (or_one (used_type at.now y)) at.now.gives.1 refs.now) ∷ [])) }
+{
     trail.ask(4, same(alloc, at.used_type(y), Some(&at.gives.1), refs)?)
 }
 

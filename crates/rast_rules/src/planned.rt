@@ -158,7 +158,9 @@ fn amount(alloc: Global, program: &Program, at: &Judgement, node: &Node) -> Resu
     match node {
         Node::Pay { x, .. } => {
             let head = head_at(alloc, program, at, *x)?;
-            Ok(amount_of(&head))
+            let amount = amount_of(&head);
+            drop(head);
+            Ok(amount)
         }
         _ => Ok(Lin::nought()),
     }

@@ -1,10 +1,11 @@
 // The premises of a node that touches a channel.
 ghost use Rattle.std.specs.Prelude.{◌≡◌, ◌∷◌, [], ◌++◌, ◌&&◌, ◌==◌, not, map, is_some, OnOk, Ok, if◌then◌else◌};
 ghost use Rattle.rast_index.specs.Linear.{nought};
-ghost use Rattle.rast_index.specs.Truth.{is_equal};
+ghost use Rattle.rast_index.specs.Truth.{is_equal, is_at_least};
+ghost use Rattle.rast_equal.specs.Valid.{nonneg};
 ghost use Rattle.rast_types.specs.Symbolic.{made_exposed};
 ghost use Rattle.rast_terms.specs.Nodes.{refs_of};
-ghost use Rattle.rast_rules.specs.Rules.{defs, deal, head_is, at_head, at_channel, touch_asked, further, used_type, type_of, choices_of, first_of_pair, formula_of, or_one, none_left, without, label_asked, has_branch};
+ghost use Rattle.rast_rules.specs.Rules.{defs, deal, head_is, at_head, at_channel, touch_asked, further, used_type, type_of, choices_of, first_of_pair, formula_of, amount_of, or_one, none_left, without, label_asked, has_branch};
 ghost use Rattle.rast_rules.specs.Trail.{and_then, plain};
 
 use crate::channels::first_left;
@@ -19,9 +20,10 @@ use crate::premise::{Evidence, Premise};
 use crate::touch::Touch;
 use crate::trail::Trail;
 use rast_ergo::{affords, empty};
+use rast_index::Lin;
 use rast_terms::{Node, Program};
 use rast_time::now;
-use rast_types::{Kind, Ref, Ty};
+use rast_types::{Exposed, Kind, Ref, Ty};
 use std::alloc::{AllocError, Global};
 
 /// All that is asked of a node that touches a channel.
@@ -59,12 +61,30 @@ fn ask_head(
     let made = expose_within(alloc, &program.types, at.ctx.vars, ty)?;
     match made {
         Ok(exposed) => {
-            ask_kind(trail, want, kind_of(&exposed.head))?;
-            trail.ask(3, truth(now(&program.types, ty)))?;
-            ask_further(alloc, program, at, node, &exposed.head, trail)
+            let asked = ask_exposed(alloc, program, at, node, want, ty, &exposed, trail);
+            drop(exposed);
+            asked
         }
         Err(stop) => trail.ask(2, Premise::Passed { stop }),
     }
+}
+
+// The same where the ticks and the head of the type were made.
+fn ask_exposed(
+    alloc: Global,
+    program: &Program,
+    at: &Judgement,
+    node: &Node,
+    want: Kind,
+    ty: &Ty,
+    exposed: &Exposed,
+    trail: &mut Trail,
+) -> Result<(), AllocError>
+    ensures { made_exposed (defs program.now) at.now.ctx.vars ty.now ≡ Ok (record { ticks = exposed.now.ticks; body = exposed.now.head }) → OnOk result (trail.new ≡ and_then trail.old (deal at.now.ctx.vars (refs_of node.now) (at_head program.now at.now node.now want (made_exposed (defs program.now) at.now.ctx.vars ty.now)))) }
+{
+    ask_kind(trail, want, kind_of(&exposed.head))?;
+    trail.ask(3, truth(now(&program.types, ty)))?;
+    ask_further(alloc, program, at, node, &exposed.head, trail)
 }
 
 fn ask_kind(trail: &mut Trail, want: Kind, found: Option<Kind>) -> Result<(), AllocError>
@@ -98,19 +118,9 @@ fn ask_further(
         Node::Label { label, .. } => ask_label(trail, choices_of(head), *label),
         Node::Case { branches, .. } => ask_case(trail, choices_of(head), branches.as_slice()),
         Node::Send { x, w, refs, .. } => ask_send(alloc, at, *x, *w, refs.as_slice(), head, trail),
-        Node::Index { value, .. } => trail.ask(
-            4,
-            Premise::Truth {
-                goal: nonneg(value),
-            },
-        ),
+        Node::Index { value, .. } => ask_index(value, trail),
         Node::Assert { .. } => ask_formula(alloc, head, trail),
-        Node::Pay { .. } => trail.ask(
-            4,
-            Premise::Truth {
-                goal: affords(&at.potential, &amount_of(head)),
-            },
-        ),
+        Node::Pay { .. } => ask_pay(at, head, trail),
         Node::Close { .. } => ask_close(at, trail),
         Node::Recv { .. } | Node::Bind { .. } | Node::Assume { .. } => Ok(()),
         Node::Get { .. } | Node::Wait { .. } | Node::Forward { .. } => Ok(()),
@@ -189,6 +199,30 @@ fn may_send(at: &Judgement, x: u32, w: u32) -> bool
         Some(_) => w != x,
         None => false,
     }
+}
+
+// The term that is sent is at least 0.
+fn ask_index(value: &Lin, trail: &mut Trail) -> Result<(), AllocError>
+    ensures { OnOk result (trail.new ≡ and_then trail.old ((4, Premise.Truth (nonneg value.now)) ∷ [])) }
+{
+    trail.ask(
+        4,
+        Premise::Truth {
+            goal: nonneg(value),
+        },
+    )
+}
+
+// There is enough potential for what is paid.
+fn ask_pay(at: &Judgement, head: &Ty, trail: &mut Trail) -> Result<(), AllocError>
+    ensures { OnOk result (trail.new ≡ and_then trail.old ((4, Premise.Truth (is_at_least at.now.potential (amount_of head.now))) ∷ [])) }
+{
+    trail.ask(
+        4,
+        Premise::Truth {
+            goal: affords(&at.potential, &amount_of(head)),
+        },
+    )
 }
 
 fn ask_formula(alloc: Global, head: &Ty, trail: &mut Trail) -> Result<(), AllocError>

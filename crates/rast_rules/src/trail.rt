@@ -54,6 +54,7 @@ impl Trail {
         ensures { OnOk result (self.new ≡ and_then self.old ((number, premise) ∷ [])) }
     {
         if self.closed {
+            drop(premise);
             return Ok(());
         }
         let stops = premise.stops();

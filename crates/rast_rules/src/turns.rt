@@ -31,11 +31,20 @@ pub(crate) fn joined(uses: Uses, channel: u32, made: Result<Ty, Stop>) -> Result
                 uses.push((channel, ty))?;
                 Ok(Ok(uses))
             }
-            Err(stop) => Ok(Err(stop)),
+            Err(stop) => {
+                drop(uses);
+                Ok(Err(stop))
+            }
         },
-        Err(Stop::Variables) => Ok(Err(Stop::Variables)),
+        Err(Stop::Variables) => {
+            drop(made);
+            Ok(Err(Stop::Variables))
+        }
         Err(stop) => match made {
-            Ok(_) => Ok(Err(stop)),
+            Ok(ty) => {
+                drop(ty);
+                Ok(Err(stop))
+            }
             Err(other) => Ok(Err(other)),
         },
     }
@@ -88,8 +97,13 @@ fn turn_one(
     if is_among(gone, channel) {
         return Ok(before);
     }
-    let made = turn(alloc, vars, by, ty)?;
-    joined(before, channel, made)
+    match turn(alloc, vars, by, ty) {
+        Ok(made) => joined(before, channel, made),
+        Err(error) => {
+            drop(before);
+            Err(error)
+        }
+    }
 }
 
 // The same with another type at one channel.
@@ -106,15 +120,24 @@ fn typed_uses(
 {
     let start = Ok(Items::new(alloc));
     if is_among(gone, x) {
+        drop(part);
         return turn_uses(alloc, vars, by, gone, start, uses);
     }
     match place_of(uses, x) {
-        Some(i) => {
-            let front = turn_uses(alloc, vars, by, gone, start, &uses[..i])?;
-            let middle = joined(front, x, part)?;
-            turn_uses(alloc, vars, by, gone, middle, &uses[i + 1..])
+        Some(i) => match turn_uses(alloc, vars, by, gone, start, &uses[..i]) {
+            Ok(front) => {
+                let middle = joined(front, x, part)?;
+                turn_uses(alloc, vars, by, gone, middle, &uses[i + 1..])
+            }
+            Err(error) => {
+                drop(part);
+                Err(error)
+            }
+        },
+        None => {
+            drop(part);
+            turn_uses(alloc, vars, by, gone, start, uses)
         }
-        None => turn_uses(alloc, vars, by, gone, start, uses),
     }
 }
 
@@ -159,8 +182,13 @@ pub(crate) fn change(
 {
     let uses = at.uses.as_slice();
     let made = turn_uses(alloc, vars, by, gone, Ok(Items::new(alloc)), uses)?;
-    let gives = turn(alloc, vars, by, &at.gives.1)?;
-    Ok(draft(at, vars, made, count_left(uses, gone), gives))
+    match turn(alloc, vars, by, &at.gives.1) {
+        Ok(gives) => Ok(draft(at, vars, made, count_left(uses, gone), gives)),
+        Err(error) => {
+            drop(made);
+            Err(error)
+        }
+    }
 }
 
 /// The same with another type at one channel.
@@ -178,12 +206,22 @@ pub(crate) fn change_at(
     let uses = at.uses.as_slice();
     let count = count_left(uses, gone);
     if at.is_provided(x) {
-        let made = turn_uses(alloc, vars, by, gone, Ok(Items::new(alloc)), uses)?;
-        return Ok(draft(at, vars, made, count, part));
+        return match turn_uses(alloc, vars, by, gone, Ok(Items::new(alloc)), uses) {
+            Ok(made) => Ok(draft(at, vars, made, count, part)),
+            Err(error) => {
+                drop(part);
+                Err(error)
+            }
+        };
     }
-    let made = typed_uses(alloc, vars, by, gone, uses, x, part)?;
-    let gives = turn(alloc, vars, by, &at.gives.1)?;
-    Ok(draft(at, vars, made, count, gives))
+    let used = typed_uses(alloc, vars, by, gone, uses, x, part)?;
+    match turn(alloc, vars, by, &at.gives.1) {
+        Ok(gives) => Ok(draft(at, vars, used, count, gives)),
+        Err(error) => {
+            drop(used);
+            Err(error)
+        }
+    }
 }
 
 // A draft with the judgement's potential and channel numbers.

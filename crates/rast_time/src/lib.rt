@@ -3,8 +3,6 @@
 
 mod outside;
 mod shifting;
-#[cfg(test)]
-mod tests;
 mod ticks;
 
 pub use outside::{definition, next_of};

@@ -13,6 +13,7 @@ use Rattle.rast_cooper.proofs.Steps.{positive_varied}
 use Rattle.rast_cooper.proofs.Test.{positive_put}
 use Rattle.rast_cooper.proofs.PreparedFits.{fit_parts, literals_of, positive_prepared}
 use Rattle.rast_cooper.proofs.Courses.{explores_over, explores_ended, explores_settled, explores_broken, is_end, at_most_trans, points_done, points_stopped, bounds_same, bounds_done, bounds_stopped}
+use Rattle.rast_cooper.proofs.Moderate.{point_ended}
 use Rattle.rast_cooper.proofs.explore.+explore.Goals as goal
 
 -- ---- explore
@@ -79,13 +80,26 @@ replace-explore-requires t c =
       ),
     )
 
+-- ---- point
+pub point-returns-then-left-eq0-clause-course : goal.point-returns-then-left-eq0-clause-course
+point-returns-then-left-eq0-clause-course t c =
+    let z : 0 ≡ c.args.left = omega arith in
+    subst (λ n. Explores n (state [] (at_point c.args.x c.args.term.now c.args.more c.args.ls.now) (at_point c.args.x c.args.term.now c.args.more c.args.rows.now) ∷ []) TooMany) z
+    (explores_over (state [] (at_point c.args.x c.args.term.now c.args.more c.args.ls.now) (at_point c.args.x c.args.term.now c.args.more c.args.rows.now)))
+
+pub point-returns-then-ends-clause-course : goal.point-returns-then-ends-clause-course
+point-returns-then-ends-clause-course t c =
+    let e = c.ends.ensures in
+    let h = c.if-ends.true in
+    point_ended c.args.left c.args.x c.args.term.now c.args.more c.args.ls.now c.args.rows.now c.requires.literals c.requires.rows (e.term h) (e.near h) (c.requires.moderate (e.given h)) (e.fails h) (omega arith)
+
 -- ---- test
 pub test-bounds-requires : goal.test-bounds-requires
 test-bounds-requires t c =
     let s = some_fits fit (test c.args.x c.args.ls.now c.args.rows.now) c.in-Some.ready c.in_ok-ready.field-0 c.in_ok-ready.ensures c.in-Some.is in
     let p = fit_parts c.in-Some.ready (ap fit s.0 ∙ s.1) in
-    let e = c.as_slice.ensures in
-    let f = c.as_slice-in-Some.ensures in (
+    let e = c.as_slice-literals.ensures in
+    let f = c.as_slice-rows.ensures in (
       omega arith,
       (
         c.requires.variable,
@@ -95,7 +109,10 @@ test-bounds-requires t c =
             subst (λ (ls : List Literal). all_in_bounds ls ≡ true) (sym e) p.1,
             (
               subst (λ (ls : List Literal). all_in_bounds ls ≡ true) (sym f) p.2,
-              subst Positive (sym (e ∙ ap (λ (r : Prepared). r.literals) s.0 ∙ literals_of c.args.x c.args.ls.now c.args.rows.now)) (positive_prepared c.args.x c.args.ls.now c.args.rows.now c.requires.variable c.requires.divisors),
+              (
+                subst Positive (sym (e ∙ ap (λ (r : Prepared). r.literals) s.0 ∙ literals_of c.args.x c.args.ls.now c.args.rows.now)) (positive_prepared c.args.x c.args.ls.now c.args.rows.now c.requires.variable c.requires.divisors),
+                c.both_moderate-moderate.ensures,
+              ),
             ),
           ),
         ),
@@ -112,15 +129,15 @@ bounds-loop-lit-preserved-then-not-is_lower t c = record {
 
 pub bounds-returns-in_default : goal.bounds-returns-in_default
 bounds-returns-in_default t c = record {
-  course = bounds_stopped c.args.most c.loop-lit.left c.args.x c.args.period c.args.ls.now c.args.rows.now c.loop-lit.lit-index c.lit-item.result c.bound.result (omega arith) c.lit-item.is
-      (sym c.if-not-is_lower.ensures) c.bound.ensures c.loop-lit.invariant.course c.in_ok-end.end c.in_ok-end.ensures.course (is_end c.in_ok-end.end c.in_default.not-Done);
+  course = bounds_stopped c.args.most c.loop-lit.left c.args.x c.args.period c.args.ls.now c.args.rows.now c.loop-lit.lit-index c.lit-item.result c.bound-bound.result (omega arith) c.lit-item.is
+      (sym c.if-not-is_lower.ensures) c.bound-bound.ensures c.loop-lit.invariant.course c.in_ok-end.end c.in_ok-end.ensures.course (is_end c.in_ok-end.end c.in_default.not-Done);
   at_most = at_most_trans c.loop-lit.left c.args.most c.in_ok-end.end c.loop-lit.invariant.at_most c.in_ok-end.ensures.at_most;
 }
 
 pub bounds-loop-lit-preserved : goal.bounds-loop-lit-preserved
 bounds-loop-lit-preserved t c =
-    let d = bounds_done c.args.most c.loop-lit.left c.args.x c.args.period c.args.ls.now c.args.rows.now c.loop-lit.lit-index c.lit-item.result c.bound.result (omega arith) c.lit-item.is
-    (sym c.if-not-is_lower.ensures) c.bound.ensures c.loop-lit.invariant.course c.in_ok-end.end c.in_ok-end.ensures.course in
+    let d = bounds_done c.args.most c.loop-lit.left c.args.x c.args.period c.args.ls.now c.args.rows.now c.loop-lit.lit-index c.lit-item.result c.bound-bound.result (omega arith) c.lit-item.is
+    (sym c.if-not-is_lower.ensures) c.bound-bound.ensures c.loop-lit.invariant.course c.in_ok-end.end c.in_ok-end.ensures.course in
     let m = at_most_trans c.loop-lit.left c.args.most c.in_ok-end.end c.loop-lit.invariant.at_most c.in_ok-end.ensures.at_most in
     record {
       course = subst (λ (r : Course). Explores c.args.most (bound_states c.args.x (bounds c.args.x (take (c.loop-lit.lit-index + 1) c.args.ls.now)) c.args.period c.args.ls.now c.args.rows.now) r) c.in-Done.is d;

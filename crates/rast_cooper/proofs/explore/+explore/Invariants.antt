@@ -6,25 +6,28 @@ use Rattle.rast_cooper.specs.Search.{point_states, bound_states}
 use Rattle.rast_cooper.proofs.explore.+explore.Given as goal
 
 abbrev pub decreases-bare : goal.decreases-bare
-decreases-bare l = 6 * l.left + 5
+decreases-bare l = 7 * l.left + 6
 
 abbrev pub decreases-bounds : goal.decreases-bounds
-decreases-bounds l = 6 * l.most + 3
+decreases-bounds l = 7 * l.most + 4
 
 abbrev pub decreases-explore : goal.decreases-explore
-decreases-explore l = 6 * l.left
+decreases-explore l = 7 * l.left
+
+abbrev pub decreases-point : goal.decreases-point
+decreases-point l = 7 * l.left + 2
 
 abbrev pub decreases-points : goal.decreases-points
-decreases-points l = 6 * l.most + 2
+decreases-points l = 7 * l.most + 3
 
 abbrev pub decreases-replace : goal.decreases-replace
-decreases-replace l = 6 * l.left + 1
+decreases-replace l = 7 * l.left + 1
 
 abbrev pub decreases-substitute : goal.decreases-substitute
-decreases-substitute l = 6 * l.left + 2
+decreases-substitute l = 7 * l.left + 2
 
 abbrev pub decreases-test : goal.decreases-test
-decreases-test l = 6 * l.left + 4
+decreases-test l = 7 * l.left + 5
 
 abbrev pub invariant-bounds-loop-lit : goal.invariant-bounds-loop-lit
 invariant-bounds-loop-lit l = record {

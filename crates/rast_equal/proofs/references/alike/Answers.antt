@@ -1,4 +1,4 @@
-use Rattle.std.proofs.Common.{refl}
+use Rattle.std.proofs.Common.{[], refl}
 use Rattle.rast_equal.specs.Walk.{alike}
 use Rattle.rast_equal.proofs.Served.{alike_step}
 use Rattle.rast_equal.proofs.Serving.{alike_failed, alike_first, brought, one_fits}
@@ -10,8 +10,8 @@ loop-pairs-init c =
     let a = c.args.left in
     let b = c.args.right in
     record {
-      reduced = alike_first p a b c.push.new.self c.new-pairs.result c.in_ok-push.ensures.ok c.new-pairs.ensures;
-      fit = one_fits p p a b a b c.push.new.self c.new-pairs.result c.in_ok-push.ensures.ok c.new-pairs.ensures refl refl refl c.requires;
+      reduced = alike_first p a b c.in_ok-pairs.pairs [] c.in_ok-pairs.ensures refl;
+      fit = one_fits p p a b a b c.in_ok-pairs.pairs [] c.in_ok-pairs.ensures refl refl refl refl c.requires;
     }
 
 pub returns-in_err-alike_each : goal.returns-in_err-alike_each

@@ -1,4 +1,5 @@
-use Rattle.std.proofs.Common.{◌≡◌, ◌≤◌, ◌∙◌, [], ◌∷◌, ◌++◌, sym, ap, ap₂, refl, arith}
+use Rattle.std.proofs.Common.{◌≡◌, ◌≤◌, ◌∙◌, [], ◌∷◌, sym, arith}
+use Rattle.rast_index.specs.Linear.{nought}
 use Rattle.rast_index.specs.Truth.{is_equal}
 use Rattle.std.proofs.lemmas.Result.{IfOk-weaker}
 use Rattle.rast_equal.specs.declared.met.Met.TheVariants.{Names, Wants}
@@ -31,8 +32,6 @@ pub returns : goal.returns
 returns c =
     let x = c.args.pair.now in
     let few : x.place.vars ≤ 16 = omega arith in
-    let zero = c.in_ok-wants_equal.ensures ∙ ap₂ (λ l m. Wants x.place (is_equal l m)) c.nought.ensures c.nought-2.ensures in
-    let pushed = c.in_ok-push.ensures.ok ∙ ap₂ (λ o m. o ++ m ∷ []) c.new-own.ensures zero in
-    shows_heads x (record { own = c.append.new.self; parts = c.in_ok-heads.heads.parts }) few c.requires
-    (sym c.is_name.ensures ∙ c.if-is_name.false) (sym c.is_name-2.ensures ∙ c.if-is_name-2.false) (sym c.is_next.ensures ∙ c.if-is_next.false) (sym c.is_next-2.ensures ∙ c.if-is_next-2.false)
-    c.in_ok-heads.heads c.in_ok-heads.ensures (c.in_ok-append.ensures ∙ ap (λ o. o ++ c.in_ok-heads.heads.own) pushed) refl
+    IfOk-weaker c.after_ticks.result (λ s. (s.own ≡ Wants x.place (is_equal nought nought) ∷ c.in_ok-heads.heads.own) × (s.parts ≡ c.in_ok-heads.heads.parts)) (Shows x)
+    (λ s h. shows_heads x s few c.requires (sym c.is_name.ensures ∙ c.if-is_name.false) (sym c.is_name-2.ensures ∙ c.if-is_name-2.false) (sym c.is_next.ensures ∙ c.if-is_next.false) (sym c.is_next-2.ensures ∙ c.if-is_next-2.false)
+    c.in_ok-heads.heads c.in_ok-heads.ensures h.0 h.1) c.after_ticks.ensures

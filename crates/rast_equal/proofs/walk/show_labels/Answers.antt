@@ -15,6 +15,6 @@ loop-i-preserved-in_ok-push c =
     let i = c.loop-i.i - 1 in
     let at : c.loop-i.i ≡ i + 1 = omega arith in
     let w = subst (λ j. Walked ts us p j parts) at c.loop-i.invariant in
-    let made : c.in_ok-pair.field-0 ≡ pair (down (Label e.0) p) e.1 b = c.in_ok-pair.ensures ∙ ap (λ q. pair q e.1 b) (c.in_ok-below.ensures ∙ ap (down (Label e.0)) c.in_ok-copy.ensures) in
+    let made : c.in_ok-part_at.field-0 ≡ pair (down (Label e.0) p) e.1 b = c.in_ok-part_at.ensures in
     subst (Walked ts us p i) (sym (c.in_ok-push.ensures.ok ∙ ap (λ x. parts ++ x ∷ []) made))
     (walked_found ts us p i parts e b w c.index-ts-i.is c.in-Some.ensures c.requires.scope c.requires.left c.requires.right)

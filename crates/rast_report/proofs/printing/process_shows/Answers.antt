@@ -1,4 +1,4 @@
-use Rattle.std.proofs.Common.{◌≡◌, sym, ◌∙◌, ap, true, false, rules}
+use Rattle.std.proofs.Common.{sym, ◌∙◌, ap, true, false, rules}
 use Rattle.rast_items.specs.Links.{same_link}
 use Rattle.rast_report.proofs.Shows.{process_waits, process_goes}
 use Rattle.rast_report.proofs.printing.process_shows.Goals as goal

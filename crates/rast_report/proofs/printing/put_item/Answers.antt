@@ -1,4 +1,4 @@
-use Rattle.std.proofs.Common.{◌≡◌, sym, ◌∙◌}
+use Rattle.std.proofs.Common.{sym, ◌∙◌}
 use Rattle.rast_report.proofs.Advancing.{at_message}
 use Rattle.rast_report.proofs.printing.put_item.Goals as goal
 

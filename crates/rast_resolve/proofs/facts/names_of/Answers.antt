@@ -6,5 +6,5 @@ use Rattle.rast_resolve.proofs.facts.names_of.Goals as goal
 
 pub loop-item-preserved : goal.loop-item-preserved
 loop-item-preserved c =
-    let more : c.add_once.new.names ≡ once_from c.loop-item.names (item_names c.item-item.result) = search rules in
-    names_turn item_names c.args.items.now c.loop-item.item-index c.item-item.result c.loop-item.names _ c.loop-item.invariant c.loop-item-test.true c.item-item.is c.add_once.new.names more
+    let more : c.add_item.new.names ≡ once_from c.loop-item.names (item_names c.item-item.result) = search rules in
+    names_turn item_names c.args.items.now c.loop-item.item-index c.item-item.result c.loop-item.names _ c.loop-item.invariant c.loop-item-test.true c.item-item.is c.add_item.new.names more

@@ -1,4 +1,4 @@
-use Rattle.std.proofs.Common.{rules, ◌≡◌, [], ◌∷◌}
+use Rattle.std.proofs.Common.{rules, ◌≡◌, ◌∷◌}
 use Rattle.rast_resolve.proofs.TypeLayers.{prefixed_gives, plus_ok, plus_err, with_ok, with_err, choice_made, choice_stops}
 use Rattle.rast_resolve.proofs.types.+type_of.Goals as goal
 
@@ -17,15 +17,13 @@ atom-returns-in-Ok-choice-clause-gives t c = with_ok c.args.known.now c.args.ite
 pub atom-returns-in-Err-choice-clause-gives : goal.atom-returns-in-Err-choice-clause-gives
 atom-returns-in-Err-choice-clause-gives t c = with_err c.args.known.now c.args.item.now c.args.vars.now c.args.written.now c.in-With.c c.get-in-With.result.now c.get-in-With.ensures _ c.in-With.is c.in-Err-choice.ensures.gives
 
-pub choice-returns-in-Ok-clause-gives : goal.choice-returns-in-Ok-clause-gives
-choice-returns-in-Ok-clause-gives t c =
-    let seen : c.push.new.self ≡ c.args.written.now.label ∷ [] = search rules in
-    let out : c.append.new.self ≡ (c.in_ok-number.field-0, c.in_ok-first.first) ∷ c.in-Ok.rest = search rules in
-    choice_made c.args.known.now c.args.item.now c.args.vars.now c.args.written.now c.in_ok-first.first c.in_ok-number.field-0 c.as_slice.result.now c.push.new.self c.type_of.new.vars
-    c.in_ok-first.ensures.gives c.in_ok-number.ensures c.as_slice.ensures seen c.in_ok-first.ensures.kept c.in-Ok.rest c.append.new.self c.in-Ok.ensures.gives out
+pub choice-returns-in_ok-append-in-Ok-clause-gives : goal.choice-returns-in_ok-append-in-Ok-clause-gives
+choice-returns-in_ok-append-in-Ok-clause-gives t c =
+    let out : c.append.new.self ≡ (c.in_ok-number.number, c.in_ok-first.first) ∷ c.in-Ok.rest = search rules in
+    choice_made c.args.known.now c.args.item.now c.args.vars.now c.args.written.now c.in_ok-first.first c.in_ok-number.number c.as_slice.result.now c.in_ok-seen.seen c.type_of.new.vars
+    c.in_ok-first.ensures.gives c.in_ok-number.ensures c.as_slice.ensures c.in_ok-seen.ensures c.in_ok-first.ensures.kept c.in-Ok.rest c.append.new.self c.in-Ok.ensures.gives out
 
-pub choice-returns-clause-gives : goal.choice-returns-clause-gives
-choice-returns-clause-gives t c =
-    let seen : c.push.new.self ≡ c.args.written.now.label ∷ [] = search rules in
-    choice_stops c.args.known.now c.args.item.now c.args.vars.now c.args.written.now c.in_ok-first.first c.in_ok-number.field-0 c.as_slice.result.now c.push.new.self c.type_of.new.vars
-    c.in_ok-first.ensures.gives c.in_ok-number.ensures c.as_slice.ensures seen c.in_ok-first.ensures.kept _ c.in-Err.ensures.gives
+pub choice-returns-in-Err-clause-gives : goal.choice-returns-in-Err-clause-gives
+choice-returns-in-Err-clause-gives t c =
+    choice_stops c.args.known.now c.args.item.now c.args.vars.now c.args.written.now c.in_ok-first.first c.in_ok-number.number c.as_slice.result.now c.in_ok-seen.seen c.type_of.new.vars
+    c.in_ok-first.ensures.gives c.in_ok-number.ensures c.as_slice.ensures c.in_ok-seen.ensures c.in_ok-first.ensures.kept _ c.in-Err.ensures.gives

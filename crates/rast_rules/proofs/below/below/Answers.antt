@@ -3,7 +3,7 @@ use Rattle.rast_index.specs.Keys.{find_key}
 use Rattle.rast_index.specs.Linear.{is_small, replaced}
 use Rattle.rast_terms.specs.declared.node.Node.{Node}
 use Rattle.rast_types.specs.declared.ty.Ty.{Ty}
-use Rattle.rast_rules.specs.Rules.{limited, child_at, with_type, or_one, choices_of}
+use Rattle.rast_rules.specs.Rules.{limited, child_at, with_type, or_one}
 use Rattle.rast_rules.proofs.Sound.{spawn_small, delay_small}
 use Rattle.rast_rules.proofs.Turned.{ok_trans}
 use Rattle.rast_rules.proofs.below.below.Goals as goal

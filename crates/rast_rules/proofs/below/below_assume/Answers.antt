@@ -4,12 +4,12 @@ use Rattle.rast_rules.proofs.Sound.{kept_type, kept_same}
 use Rattle.rast_rules.proofs.Stays.{goes_on_all, premises_kept}
 use Rattle.rast_rules.proofs.below.below_assume.Goals as goal
 
-pub returns : goal.returns
-returns c =
+pub returns-in-Ok : goal.returns-in-Ok
+returns-in-Ok c =
     let j = c.args.at.now in
     let x = c.args.x in
     let a = inner_of c.args.head.now in
     let k = with_type j x a in
     let kept = kept_type j j x a (kept_same j) in
-    c.only.ensures (with_premise k (formula_of c.args.head.now)) (goes_on_all j x a c.in_ok-draft.draft (c.in_ok-draft.ensures a c.inner_of.ensures)) kept.decl
-    (ap₂ (λ ps f. ps ++ f ∷ []) (premises_kept j k kept) (sym c.in_ok-formula.ensures))
+    c.only-children.ensures (with_premise k (formula_of c.args.head.now)) (goes_on_all j x a c.in_ok-draft.draft (c.in_ok-draft.ensures a c.inner_of.ensures)) kept.decl
+    (ap₂ (λ ps f. ps ++ f ∷ []) (premises_kept j k kept) (sym c.in-Ok.ensures))

@@ -1,9 +1,9 @@
 use Rattle.std.proofs.Common.{◌∷◌, [], ◌++◌, ◌∙◌, ap, ap₂, List}
 use Rattle.rast_index.specs.Linear.{Linear, variables}
-use Rattle.rast_types.specs.Symbolic.{put_type, made_type}
-use Rattle.rast_rules.specs.Rules.{inner_of, with_type}
+use Rattle.rast_types.specs.Symbolic.{put_type}
+use Rattle.rast_rules.specs.Rules.{inner_of, with_type, limited}
 use Rattle.rast_rules.proofs.Sound.{kept_type, kept_same}
-use Rattle.rast_rules.proofs.Stays.{changes_at, too_many_kept}
+use Rattle.rast_rules.proofs.Stays.{too_many_kept}
 use Rattle.rast_rules.proofs.Turned.{ok_trans}
 use Rattle.rast_rules.proofs.below.below_index.Goals as goal
 
@@ -21,7 +21,6 @@ returns c =
     let x = c.args.x in
     let b = inner_of c.args.head.now in
     let a = put_type n (variables n ++ c.args.value.now ∷ []) b in
-    let kept = kept_type j j x a (kept_same j) in
     let terms = c.as_slice.ensures ∙ c.in_ok-push.ensures.ok ∙ ap₂ (λ (ls : List Linear) (l : Linear). ls ++ l ∷ []) c.in_ok-terms.ensures c.again.ensures.same in
-    let part = c.in_ok-part.ensures b c.inner_of.ensures ∙ ap (λ ls. made_type n (put_type n ls b)) terms in
-    c.only.ensures (with_type j x a) (changes_at j x a c.in_ok-draft.draft (c.in_ok-draft.ensures a part)) kept.decl kept.premises
+    ok_trans c.below_terms-children.result (limited (with_type j x (put_type n c.as_slice.result.now b)) ∷ []) (limited (with_type j x a) ∷ [])
+    (ap (λ (ls : List Linear). limited (with_type j x (put_type n ls b)) ∷ []) terms) (c.below_terms-children.ensures b c.inner_of.ensures)

@@ -12,8 +12,8 @@ with_channel-requires c =
     let a = second_of_pair c.args.head.now in
     ap (λ (d : Draft). d.fresh) (goes_on_all j c.args.x a c.in_ok-draft.draft (c.in_ok-draft.ensures a c.second_of_pair.ensures)) ∙ (kept_type j j c.args.x a (kept_same j)).fresh
 
-pub returns : goal.returns
-returns c =
+pub returns-in_ok-wider-in-Ok : goal.returns-in_ok-wider-in-Ok
+returns-in_ok-wider-in-Ok c =
     let j = c.args.at.now in
     let x = c.args.x in
     let a = second_of_pair c.args.head.now in
@@ -21,5 +21,5 @@ returns c =
     let k = with_type j x a in
     let kept = kept_type j j x a (kept_same j) in
     let draft = goes_on_all j x a c.in_ok-draft.draft (c.in_ok-draft.ensures a c.second_of_pair.ensures) in
-    let first = c.in_ok-first.ensures b c.first_of_pair.ensures ∙ ap (λ n. made_type n b) (sym kept.vars) in
-    c.only.ensures (with_channel k b) (c.in_ok-draft-2.ensures k b draft first) kept.decl kept.premises
+    let first = c.in-Ok.ensures b c.first_of_pair.ensures ∙ ap (λ n. made_type n b) (sym kept.vars) in
+    c.only.ensures (with_channel k b) (c.in_ok-wider-in-Ok.ensures k b draft first) kept.decl kept.premises

@@ -14,8 +14,8 @@ with_channel-requires c =
     let q = less j.potential (replaced c.args.args.now c.args.callee.now.potential) in
     ap (λ (d : Draft). d.fresh) (c.with_potential-draft.ensures (without j ys) q (c.in_ok-draft.ensures ∙ ap drafted (changed_without j ys)) (c.handed.ensures (replaced c.args.args.now c.args.callee.now.potential) c.put_term.ensures c.requires))
 
-pub returns : goal.returns
-returns c =
+pub returns-in_ok-wider-in-Ok : goal.returns-in_ok-wider-in-Ok
+returns-in_ok-wider-in-Ok c =
     let j = c.args.at.now in
     let ys = c.args.ys.now in
     let es = c.args.args.now in
@@ -25,4 +25,4 @@ returns c =
     let b = at_args j es c.args.callee.now.gives in
     let kept = kept_without j ys in
     let draft = c.with_potential-draft.ensures (without j ys) q (c.in_ok-draft.ensures ∙ ap drafted (changed_without j ys)) (c.handed.ensures l c.put_term.ensures c.requires) in
-    c.only.ensures (with_channel k b) (c.in_ok-draft-2.ensures k b draft c.in_ok-made.ensures) kept.decl kept.premises
+    c.only.ensures (with_channel k b) (c.in_ok-wider-in-Ok.ensures k b draft c.in-Ok.ensures) kept.decl kept.premises

@@ -1,4 +1,4 @@
-use Rattle.std.proofs.Common.{◌≡◌, ◌<◌, ◌≤◌, ◌+◌, ◌∙◌, ap, refl, get_or, min, length, arith, not, ◌&&◌, nat_eq}
+use Rattle.std.proofs.Common.{◌<◌, ◌≤◌, ◌+◌, ◌∙◌, ap, refl, get_or, min, length, arith, not, ◌&&◌, nat_eq}
 use Rattle.rast_rules.proofs.Called.{args_turn, args_end}
 use Rattle.rast_rules.proofs.calls.ask_arguments.Goals as goal
 

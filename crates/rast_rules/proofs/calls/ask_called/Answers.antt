@@ -4,7 +4,6 @@ use Rattle.rast_index.specs.Truth.{is_equal}
 use Rattle.rast_equal.specs.Valid.{nonneg}
 use Rattle.rast_types.specs.Symbolic.{made_type}
 use Rattle.rast_types.specs.declared.ty.Ty.{Ty}
-use Rattle.rast_rules.specs.declared.premise.Premise.{Premise}
 use Rattle.rast_rules.specs.declared.premise.Premise.TheVariants.{Shape}
 use Rattle.rast_rules.specs.declared.premise.Evidence.TheVariants.{Linear as WLinear}
 use Rattle.rast_rules.specs.Rules.{Askings, Is, Alike, deal, arg_asked, at_args, are_used, is_provided, none_left, without, failure}
@@ -31,16 +30,12 @@ returns c =
     let C : Found = plain (are_used j 3 [] ys) in
     let D : Found = plain (none_left 3 (without j ys).uses) in
     let E : Found = (4, truth_premise (is_equal j.potential (replaced es d.potential))) ∷ [] in
-    let second : c.ask.new.self ≡ and_then c.ask_nonneg.new.trail B =
-    c.in_ok-ask.ensures ∙ ap (λ (q : Premise). and_then c.ask_nonneg.new.trail ((2, q) ∷ [])) (c.linear.ensures ∙ ap (λ t. Shape t (WLinear x)) c.is_provided.ensures) in
-    let fifth : c.ask-2.new.self ≡ and_then c.ask_none_left.new.trail E =
-    c.in_ok-ask-2.ensures ∙ ap (λ (q : Premise). and_then c.ask_none_left.new.trail ((4, q) ∷ [])) (c.compared-potential.ensures j.potential (replaced es d.potential) c.same_term.ensures c.put_term.ensures) in
     on_ok c.ask_result.result (λ e.
-    let last : c.ask_result.new.trail ≡ and_then c.ask-2.new.self (deal n rs args) =
-    e ∙ c.in_ok-served.ensures.asks result refl ∙ ap (λ (us : List Ty). and_then c.ask-2.new.self (deal n rs (map (arg_asked j 5 es) (zip ys us) ++ result))) c.as_slice-uses.ensures in
+    let last : c.ask_result.new.trail ≡ and_then c.ask_equal.new.trail (deal n rs args) =
+    e ∙ c.in_ok-served.ensures.asks result refl ∙ ap (λ (us : List Ty). and_then c.ask_equal.new.trail (deal n rs (map (arg_asked j 5 es) (zip ys us) ++ result))) c.as_slice-uses.ensures in
     two_then old c.ask_nonneg.new.trail c.ask_result.new.trail A (B ++ (C ++ (D ++ (E ++ deal n rs args)))) c.in_ok-ask_nonneg.ensures
-    (two_then c.ask_nonneg.new.trail c.ask.new.self c.ask_result.new.trail B (C ++ (D ++ (E ++ deal n rs args))) second
-    (two_then c.ask.new.self c.ask_used.new.trail c.ask_result.new.trail C (D ++ (E ++ deal n rs args)) c.in_ok-ask_used.ensures
+    (two_then c.ask_nonneg.new.trail c.ask_provided.new.trail c.ask_result.new.trail B (C ++ (D ++ (E ++ deal n rs args))) c.in_ok-ask_provided.ensures
+    (two_then c.ask_provided.new.trail c.ask_used.new.trail c.ask_result.new.trail C (D ++ (E ++ deal n rs args)) c.in_ok-ask_used.ensures
     (two_then c.ask_used.new.trail c.ask_none_left.new.trail c.ask_result.new.trail D (E ++ deal n rs args) c.in_ok-ask_none_left.ensures
-    (two_then c.ask_none_left.new.trail c.ask-2.new.self c.ask_result.new.trail E (deal n rs args) fifth last))))
+    (two_then c.ask_none_left.new.trail c.ask_equal.new.trail c.ask_result.new.trail E (deal n rs args) c.in_ok-ask_equal.ensures last))))
     ∙ ap (and_then old) (call_deal j x es ys d n rs)) c.ask_result.ensures

@@ -1,4 +1,4 @@
-use Rattle.std.proofs.Common.{◌≡◌, ◌∙◌, sym, ap, true, false, refl}
+use Rattle.std.proofs.Common.{◌∙◌, sym, ap, true, false, refl}
 use Rattle.rast_index.specs.Keys.{find_key}
 use Rattle.rast_types.specs.declared.ty.Ty.{Ty, out-Ty}
 use Rattle.rast_types.specs.declared.ty.Ty.TheVariants as ty

@@ -1,23 +1,6 @@
-use Rattle.std.proofs.Common.{◌∙◌, arith}
-use Rattle.rast_rules.proofs.Single.{none_sound, below_turn, all_reached}
+use Rattle.std.proofs.Common.{◌∙◌}
+use Rattle.rast_rules.proofs.Single.{none_sound}
 use Rattle.rast_rules.proofs.judged.judgements.Goals as goal
 
-pub add_bodies-requires-clause-old : goal.add_bodies-requires-clause-old
-add_bodies-requires-clause-old c = none_sound c.args.program.now c.in_ok-judged.judged (c.in_ok-judged.ensures.size ∙ c.len-count.ensures) c.in_ok-judged.ensures.none
-
-pub loop-node-init : goal.loop-node-init
-loop-node-init c = record { sound = c.in_ok-add_bodies.ensures.sound; bodies = c.in_ok-add_bodies.ensures.bodies; below = λ p j nd h. absurd (omega (arith, h)) }
-
-pub loop-node-preserved : goal.loop-node-preserved
-loop-node-preserved c =
-    let g = c.args.program.now in
-    let inv = c.loop-node.invariant in
-    let new = c.in_ok-add_children.ensures in
-    record {
-      sound = new.sound;
-      bodies = λ l d h s. new.keeps d.body (inv.bodies l d h s);
-      below = below_turn g c.requires.forest c.loop-node.judged c.add_children.new.judged c.loop-node.node inv.bodies inv.below new.keeps new.here;
-    }
-
-pub returns-clause-whole : goal.returns-clause-whole
-returns-clause-whole c = all_reached c.args.program.now c.requires.accepted c.requires.forest c.loop-node.judged c.loop-node.node (omega (arith, c.loop-node-test.false, c.len-count.ensures)) c.loop-node.invariant.bodies c.loop-node.invariant.below
+pub add_all-requires-clause-old : goal.add_all-requires-clause-old
+add_all-requires-clause-old c = none_sound c.args.program.now c.in_ok-judged.judged (c.in_ok-judged.ensures.size ∙ c.len.ensures) c.in_ok-judged.ensures.none

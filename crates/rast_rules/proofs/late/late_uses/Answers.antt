@@ -1,4 +1,4 @@
-use Rattle.std.proofs.Common.{true, false, ◌∙◌}
+use Rattle.std.proofs.Common.{false}
 use Rattle.rast_rules.proofs.Lates.{later_turn, later_end, ticks_step}
 use Rattle.rast_rules.proofs.late.late_uses.Goals as goal
 

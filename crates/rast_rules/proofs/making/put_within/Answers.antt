@@ -9,5 +9,5 @@ use Rattle.rast_rules.proofs.making.put_within.Goals as goal
 pub returns : goal.returns
 returns c =
     c.settled.ensures (made_type c.args.vars (put_type c.args.vars c.args.args.now c.args.ty.now))
-    (subst (λ (a : Ty). Answers (made_type c.args.vars a) c.unfold.result)
-    (opened_only _ c.args.vars c.args.ty.now (Named 0 c.in_ok-copy_terms.field-0) c.in_ok-copy_terms.field-0 c.args.args.now c.in_ok-table.ensures refl c.in_ok-copy_terms.ensures.same) c.unfold.ensures)
+    (subst (λ (a : Ty). Answers (made_type c.args.vars a) c.unfold-made.result)
+    (opened_only _ c.args.vars c.args.ty.now (Named 0 c.in_ok-copy_terms.field-0) c.in_ok-copy_terms.field-0 c.args.args.now c.in_ok-table.ensures refl c.in_ok-copy_terms.ensures.same) c.unfold-made.ensures)

@@ -1,4 +1,4 @@
-use Rattle.std.proofs.Common.{◌≡◌, ◌∷◌, [], ◌++◌, map, ◌∙◌, ap₂, ℕ}
+use Rattle.std.proofs.Common.{◌∷◌, [], ◌++◌, map, ◌∙◌, ap₂, ℕ}
 use Rattle.rast_index.specs.declared.formula.Formula.{Formula}
 use Rattle.rast_types.specs.declared.ty.Ty.{Ty}
 use Rattle.rast_rules.specs.declared.premise.Premise.{Premise}

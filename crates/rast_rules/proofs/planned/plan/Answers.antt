@@ -1,5 +1,5 @@
 use Rattle.rast_rules.proofs.Noted.{plan_is}
-use Rattle.std.proofs.Common.{◌∙◌, subst}
+use Rattle.std.proofs.Common.{subst}
 use Rattle.rast_rules.specs.Rules.{positive_at, paid_at}
 use Rattle.rast_rules.specs.Plan.{ReadsAll}
 use Rattle.rast_rules.proofs.planned.plan.Goals as goal

@@ -1,4 +1,4 @@
-use Rattle.std.proofs.Common.{◌≡◌, ◌∷◌, [], ◌∙◌, ap, ap₂}
+use Rattle.std.proofs.Common.{◌∷◌, [], ◌∙◌, ap, ap₂}
 use Rattle.rast_rules.specs.declared.premise.Premise.{Premise}
 use Rattle.rast_rules.specs.declared.premise.Premise.TheVariants.{Shape}
 use Rattle.rast_rules.specs.declared.premise.Evidence.TheVariants.{Linear}

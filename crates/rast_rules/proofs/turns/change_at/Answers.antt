@@ -5,18 +5,18 @@ use Rattle.rast_rules.specs.Trail.{left}
 use Rattle.rast_rules.proofs.Turned.{change_provided, change_used}
 use Rattle.rast_rules.proofs.turns.change_at.Goals as goal
 
-pub returns-then-is_provided : goal.returns-then-is_provided
-returns-then-is_provided c = λ a e.
+pub returns-in-Ok : goal.returns-in-Ok
+returns-in-Ok c = λ a e.
     let n = c.args.vars in
     let gone = c.args.gone.now in
     let same = c.as_slice-uses.ensures in
-    change_provided c.args.at.now n c.args.by gone c.draft.result c.count_left-count.result (c.count_left-count.ensures ∙ ap (λ us. min 16 (length (left gone us))) same) c.args.x a c.in_ok-made.made c.args.part
-    (sym c.is_provided.ensures ∙ c.if-is_provided.true) (c.in_ok-made.ensures [] (ap Ok c.new.ensures) ∙ ap (λ us. made_uses n (turned_uses n c.args.by (left gone us))) same) e c.draft.ensures
+    change_provided c.args.at.now n c.args.by gone c.draft.result c.count_left-count.result (c.count_left-count.ensures ∙ ap (λ us. min 16 (length (left gone us))) same) c.args.x a c.in-Ok.made c.args.part
+    (sym c.is_provided.ensures ∙ c.if-is_provided.true) (c.in-Ok.ensures [] (ap Ok c.new.ensures) ∙ ap (λ us. made_uses n (turned_uses n c.args.by (left gone us))) same) e c.draft.ensures
 
-pub returns : goal.returns
-returns c = λ a e.
+pub returns-in-Ok-turn : goal.returns-in-Ok-turn
+returns-in-Ok-turn c = λ a e.
     let n = c.args.vars in
     let gone = c.args.gone.now in
     let same = c.as_slice-uses.ensures in
-    change_used c.args.at.now n c.args.by gone c.draft-2.result c.count_left-count.result (c.count_left-count.ensures ∙ ap (λ us. min 16 (length (left gone us))) same) c.args.x a c.in_ok-made-2.made c.in_ok-gives.gives
-    (sym c.is_provided.ensures ∙ c.if-is_provided.false) (c.in_ok-made-2.ensures a e ∙ ap (λ us. made_uses n (set_key c.args.x a (turned_uses n c.args.by (left gone us)))) same) c.in_ok-gives.ensures c.draft-2.ensures
+    change_used c.args.at.now n c.args.by gone c.draft-in-Ok-turn.result c.count_left-count.result (c.count_left-count.ensures ∙ ap (λ us. min 16 (length (left gone us))) same) c.args.x a c.in_ok-used.used c.in-Ok-turn.gives
+    (sym c.is_provided.ensures ∙ c.if-is_provided.false) (c.in_ok-used.ensures a e ∙ ap (λ us. made_uses n (set_key c.args.x a (turned_uses n c.args.by (left gone us)))) same) c.in-Ok-turn.ensures c.draft-in-Ok-turn.ensures

@@ -6,8 +6,8 @@ use Rattle.rast_rules.proofs.turns.turn_one.Goals as goal
 pub returns-then-is_among : goal.returns-then-is_among
 returns-then-is_among c = λ us e. one_gone c.args.vars c.args.by c.args.gone.now us (c.args.channel, c.args.ty.now) c.args.before e (sym c.is_among.ensures ∙ c.if-is_among.true)
 
-pub returns : goal.returns
-returns c = λ us e.
-    ok_trans c.joined.result (join_made c.args.before c.args.channel c.in_ok-made.made) _
-    (one_kept c.args.vars c.args.by c.args.gone.now us (c.args.channel, c.args.ty.now) c.args.before _ c.in_ok-made.made e (sym c.is_among.ensures ∙ c.if-is_among.false) c.in_ok-made.ensures refl)
+pub returns-in-Ok : goal.returns-in-Ok
+returns-in-Ok c = λ us e.
+    ok_trans c.joined.result (join_made c.args.before c.args.channel c.in-Ok.made) _
+    (one_kept c.args.vars c.args.by c.args.gone.now us (c.args.channel, c.args.ty.now) c.args.before _ c.in-Ok.made e (sym c.is_among.ensures ∙ c.if-is_among.false) c.in-Ok.ensures refl)
     c.joined.ensures

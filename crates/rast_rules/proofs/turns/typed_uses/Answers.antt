@@ -22,8 +22,8 @@ returns-in-None c = λ a e.
     ok_trans c.turn_uses-in-None.result (made_uses n (all_of n c.args.by gone us)) (made_uses n (set_key c.args.x a (all_of n c.args.by gone us)))
     (ap (made_uses n) (sym (set_absent n c.args.by gone c.args.x a us c.in-None.ensures))) (c.turn_uses-in-None.ensures [] (ap Ok c.new.ensures))
 
-pub returns-in_ok-middle-in-Some : goal.returns-in_ok-middle-in-Some
-returns-in_ok-middle-in-Some c = λ a e.
+pub returns-in_ok-middle-in-Ok : goal.returns-in_ok-middle-in-Ok
+returns-in_ok-middle-in-Ok c = λ a e.
     let n = c.args.vars in
     let by = c.args.by in
     let gone = c.args.gone.now in
@@ -35,8 +35,8 @@ returns-in_ok-middle-in-Some c = λ a e.
     let rest = take (length us - (i + 1)) (drop (i + 1) us) in
     let before : List (ℕ × Ty) = all_of n by gone (take i us) in
     let with : List (ℕ × Ty) = before ++ (x, a) ∷ [] in
-    let front = c.in_ok-front-in-Some.ensures [] (ap Ok c.new.ensures) in
-    let middle = join_made_is n before x a c.in_ok-front-in-Some.front c.in_ok-middle-in-Some.middle c.args.part front e c.in_ok-middle-in-Some.ensures in
-    ok_trans c.turn_uses-in-Some-2.result (made_uses n (with ++ all_of n by gone rest)) (made_uses n (set_key x a (all_of n by gone us)))
+    let front = c.in-Ok.ensures [] (ap Ok c.new.ensures) in
+    let middle = join_made_is n before x a c.in-Ok.front c.in_ok-middle-in-Ok.middle c.args.part front e c.in_ok-middle-in-Ok.ensures in
+    ok_trans c.turn_uses-in-Ok.result (made_uses n (with ++ all_of n by gone rest)) (made_uses n (set_key x a (all_of n by gone us)))
     (ap (λ vs. made_uses n (with ++ all_of n by gone vs)) (rest_is us (i + 1) ∙ ap (λ k. drop k us) (add-one i)) ∙ ap (made_uses n) (sym (set_split n by gone x a us i (x, a) free place.below place.free (place.here (x, a)))))
-    (c.turn_uses-in-Some-2.ensures with middle)
+    (c.turn_uses-in-Ok.ensures with middle)

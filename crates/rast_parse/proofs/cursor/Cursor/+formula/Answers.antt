@@ -15,7 +15,7 @@ pub further_literals-returns-in-Err : goal.further_literals-returns-in-Err
 further_literals-returns-in-Err t c = at_fault _ c.loop-turn.invariant c.loop-turn-test.true c.left-turn-end.ensures c.at.ensures c.if-not-at.false c.in-Err.ensures
 
 pub further_literals-loop-turn-preserved : goal.further_literals-loop-turn-preserved
-further_literals-loop-turn-preserved t c = at_turn c.loop-turn.invariant c.loop-turn-test.true c.left-turn-end.ensures c.at.ensures c.if-not-at.false c.in-Ok.ensures c.in_ok-push-in-Ok.ensures.ok
+further_literals-loop-turn-preserved t c = at_turn c.loop-turn.invariant c.loop-turn-test.true c.left-turn-end.ensures c.at.ensures c.if-not-at.false c.in-Ok.ensures c.in-Ok-push.ensures.ok
 
 pub further_literals-returns : goal.further_literals-returns
 further_literals-returns t c = at_last c.loop-turn.invariant c.loop-turn-test.false c.left-turn-end.ensures
@@ -27,7 +27,7 @@ pub further_conjunctions-returns-in-Err : goal.further_conjunctions-returns-in-E
 further_conjunctions-returns-in-Err t c = at_fault _ c.loop-turn.invariant c.loop-turn-test.true c.left-turn-end.ensures c.at.ensures c.if-not-at.false c.in-Err.ensures
 
 pub further_conjunctions-loop-turn-preserved : goal.further_conjunctions-loop-turn-preserved
-further_conjunctions-loop-turn-preserved t c = at_turn c.loop-turn.invariant c.loop-turn-test.true c.left-turn-end.ensures c.at.ensures c.if-not-at.false c.in-Ok.ensures c.in_ok-push-in-Ok.ensures.ok
+further_conjunctions-loop-turn-preserved t c = at_turn c.loop-turn.invariant c.loop-turn-test.true c.left-turn-end.ensures c.at.ensures c.if-not-at.false c.in-Ok.ensures c.in-Ok-push.ensures.ok
 
 pub further_conjunctions-returns : goal.further_conjunctions-returns
 further_conjunctions-returns t c = at_last c.loop-turn.invariant c.loop-turn-test.false c.left-turn-end.ensures

@@ -9,6 +9,9 @@ use Rattle.rast_parse.proofs.cursor.Cursor.+formula.Given as goal
 abbrev pub decreases-form : goal.decreases-form
 decreases-form l = 8 * l.depth
 
+abbrev pub decreases-boxed_form : goal.decreases-boxed_form
+decreases-boxed_form l = 8 * l.depth + 1
+
 abbrev pub decreases-literal : goal.decreases-literal
 decreases-literal l = 8 * l.depth
 

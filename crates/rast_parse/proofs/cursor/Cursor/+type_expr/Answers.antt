@@ -15,7 +15,7 @@ pub further_labelled-returns-in-Err : goal.further_labelled-returns-in-Err
 further_labelled-returns-in-Err t c = at_fault _ c.loop-turn.invariant c.loop-turn-test.true c.left-turn-end.ensures c.at.ensures c.if-not-at.false c.in-Err.ensures
 
 pub further_labelled-loop-turn-preserved : goal.further_labelled-loop-turn-preserved
-further_labelled-loop-turn-preserved t c = at_turn c.loop-turn.invariant c.loop-turn-test.true c.left-turn-end.ensures c.at.ensures c.if-not-at.false c.in-Ok.ensures c.in_ok-push-in-Ok.ensures.ok
+further_labelled-loop-turn-preserved t c = at_turn c.loop-turn.invariant c.loop-turn-test.true c.left-turn-end.ensures c.at.ensures c.if-not-at.false c.in-Ok.ensures c.in-Ok-push.ensures.ok
 
 pub further_labelled-returns : goal.further_labelled-returns
 further_labelled-returns t c = at_last c.loop-turn.invariant c.loop-turn-test.false c.left-turn-end.ensures

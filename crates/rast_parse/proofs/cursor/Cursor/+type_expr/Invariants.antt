@@ -10,23 +10,29 @@ use Rattle.rast_parse.proofs.cursor.Cursor.+type_expr.Given as goal
 abbrev pub decreases-type_expr : goal.decreases-type_expr
 decreases-type_expr l = 9 * l.depth
 
+abbrev pub decreases-boxed_type : goal.decreases-boxed_type
+decreases-boxed_type l = 9 * l.depth + 1
+
+abbrev pub decreases-type_behind : goal.decreases-type_behind
+decreases-type_behind l = 9 * l.depth + 2
+
 abbrev pub decreases-prefixed : goal.decreases-prefixed
-decreases-prefixed l = 9 * l.depth + 1
+decreases-prefixed l = 9 * l.depth + 2
 
 abbrev pub decreases-next_one : goal.decreases-next_one
-decreases-next_one l = 9 * l.depth + 1
+decreases-next_one l = 9 * l.depth + 3
 
 abbrev pub decreases-next : goal.decreases-next
-decreases-next l = 9 * l.depth + 1
+decreases-next l = 9 * l.depth + 2
 
 abbrev pub decreases-after_atom : goal.decreases-after_atom
-decreases-after_atom l = 9 * l.depth + 1
+decreases-after_atom l = 9 * l.depth + 3
 
 abbrev pub decreases-group_type : goal.decreases-group_type
-decreases-group_type l = 9 * l.depth + 2
+decreases-group_type l = 9 * l.depth + 4
 
 abbrev pub decreases-inside : goal.decreases-inside
-decreases-inside l = 9 * l.depth + 3
+decreases-inside l = 9 * l.depth + 5
 
 abbrev pub decreases-labelled : goal.decreases-labelled
 decreases-labelled l = 9 * l.depth + 1

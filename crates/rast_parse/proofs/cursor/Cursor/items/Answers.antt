@@ -9,7 +9,7 @@ pub returns-in-Err : goal.returns-in-Err
 returns-in-Err c = at_fault _ c.loop-turn.invariant c.loop-turn-test.true c.left-turn-end.ensures c.at_any.ensures c.if-not-at_any.false c.in-Err.ensures
 
 pub loop-turn-preserved : goal.loop-turn-preserved
-loop-turn-preserved c = at_turn c.loop-turn.invariant c.loop-turn-test.true c.left-turn-end.ensures c.at_any.ensures c.if-not-at_any.false c.in-Ok.ensures c.in_ok-push-in-Ok.ensures.ok
+loop-turn-preserved c = at_turn c.loop-turn.invariant c.loop-turn-test.true c.left-turn-end.ensures c.at_any.ensures c.if-not-at_any.false c.in-Ok.ensures c.in-Ok-push.ensures.ok
 
 pub returns : goal.returns
 returns c = at_last c.loop-turn.invariant c.loop-turn-test.false c.left-turn-end.ensures

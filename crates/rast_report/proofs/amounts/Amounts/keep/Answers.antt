@@ -1,6 +1,6 @@
-use Rattle.std.proofs.Common.{◌≡◌, ℕ, Some, subst}
+use Rattle.std.proofs.Common.{ℕ, Some, subst}
 use Rattle.std.specs.BTreeMap.{Updates}
-use Rattle.rast_report.specs.Amounts.{key, key_cmp}
+use Rattle.rast_report.specs.Amounts.{key_cmp}
 use Rattle.rast_report.proofs.TraceLemmas.{kept_more}
 use Rattle.rast_report.proofs.amounts.Amounts.keep.Goals as goal
 

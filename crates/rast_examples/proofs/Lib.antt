@@ -1,0 +1,5 @@
+mod Ordered
+mod Configured
+mod Ran
+pub mod Heads
+mod Viewed

@@ -1,0 +1,68 @@
+use Rattle.rast_examples.proofs.Configured.{main_alone_is_linked, client_before_provider_is_linked, message_to_client_is_linked, message_to_provider_is_linked, end_to_client_is_linked, carried_channel_is_linked, no_main_is_not_linked, main_elsewhere_is_not_linked, no_provider_is_not_linked, other_provider_is_not_linked, no_client_is_not_linked, two_providers_are_not_linked, two_clients_are_not_linked, provider_before_client_is_not_linked, own_link_used_is_not_linked, message_to_other_side_is_not_linked, message_with_other_next_is_not_linked, message_before_client_is_not_linked, label_without_next_is_not_linked, provider_after_end_is_not_linked, carried_without_provider_is_not_linked, carried_and_kept_is_not_linked}
+use Rattle.rast_examples.proofs.configuration.configurations_law.Goals as goal
+
+pub returns-clause-main_alone_is_linked : goal.returns-clause-main_alone_is_linked
+returns-clause-main_alone_is_linked c = main_alone_is_linked
+
+pub returns-clause-client_before_provider_is_linked : goal.returns-clause-client_before_provider_is_linked
+returns-clause-client_before_provider_is_linked c = client_before_provider_is_linked
+
+pub returns-clause-message_to_client_is_linked : goal.returns-clause-message_to_client_is_linked
+returns-clause-message_to_client_is_linked c = message_to_client_is_linked
+
+pub returns-clause-message_to_provider_is_linked : goal.returns-clause-message_to_provider_is_linked
+returns-clause-message_to_provider_is_linked c = message_to_provider_is_linked
+
+pub returns-clause-end_to_client_is_linked : goal.returns-clause-end_to_client_is_linked
+returns-clause-end_to_client_is_linked c = end_to_client_is_linked
+
+pub returns-clause-carried_channel_is_linked : goal.returns-clause-carried_channel_is_linked
+returns-clause-carried_channel_is_linked c = carried_channel_is_linked
+
+pub returns-clause-no_main_is_not_linked : goal.returns-clause-no_main_is_not_linked
+returns-clause-no_main_is_not_linked c = no_main_is_not_linked
+
+pub returns-clause-main_elsewhere_is_not_linked : goal.returns-clause-main_elsewhere_is_not_linked
+returns-clause-main_elsewhere_is_not_linked c = main_elsewhere_is_not_linked
+
+pub returns-clause-no_provider_is_not_linked : goal.returns-clause-no_provider_is_not_linked
+returns-clause-no_provider_is_not_linked c = no_provider_is_not_linked
+
+pub returns-clause-other_provider_is_not_linked : goal.returns-clause-other_provider_is_not_linked
+returns-clause-other_provider_is_not_linked c = other_provider_is_not_linked
+
+pub returns-clause-no_client_is_not_linked : goal.returns-clause-no_client_is_not_linked
+returns-clause-no_client_is_not_linked c = no_client_is_not_linked
+
+pub returns-clause-two_providers_are_not_linked : goal.returns-clause-two_providers_are_not_linked
+returns-clause-two_providers_are_not_linked c = two_providers_are_not_linked
+
+pub returns-clause-two_clients_are_not_linked : goal.returns-clause-two_clients_are_not_linked
+returns-clause-two_clients_are_not_linked c = two_clients_are_not_linked
+
+pub returns-clause-provider_before_client_is_not_linked : goal.returns-clause-provider_before_client_is_not_linked
+returns-clause-provider_before_client_is_not_linked c = provider_before_client_is_not_linked
+
+pub returns-clause-own_link_used_is_not_linked : goal.returns-clause-own_link_used_is_not_linked
+returns-clause-own_link_used_is_not_linked c = own_link_used_is_not_linked
+
+pub returns-clause-message_to_other_side_is_not_linked : goal.returns-clause-message_to_other_side_is_not_linked
+returns-clause-message_to_other_side_is_not_linked c = message_to_other_side_is_not_linked
+
+pub returns-clause-message_with_other_next_is_not_linked : goal.returns-clause-message_with_other_next_is_not_linked
+returns-clause-message_with_other_next_is_not_linked c = message_with_other_next_is_not_linked
+
+pub returns-clause-message_before_client_is_not_linked : goal.returns-clause-message_before_client_is_not_linked
+returns-clause-message_before_client_is_not_linked c = message_before_client_is_not_linked
+
+pub returns-clause-label_without_next_is_not_linked : goal.returns-clause-label_without_next_is_not_linked
+returns-clause-label_without_next_is_not_linked c = label_without_next_is_not_linked
+
+pub returns-clause-provider_after_end_is_not_linked : goal.returns-clause-provider_after_end_is_not_linked
+returns-clause-provider_after_end_is_not_linked c = provider_after_end_is_not_linked
+
+pub returns-clause-carried_without_provider_is_not_linked : goal.returns-clause-carried_without_provider_is_not_linked
+returns-clause-carried_without_provider_is_not_linked c = carried_without_provider_is_not_linked
+
+pub returns-clause-carried_and_kept_is_not_linked : goal.returns-clause-carried_and_kept_is_not_linked
+returns-clause-carried_and_kept_is_not_linked c = carried_and_kept_is_not_linked

@@ -1,0 +1,44 @@
+use Rattle.rast_examples.proofs.Ordered.{taken_in_order_is_ordered, waiting_message_is_ordered, moved_message_is_ordered, second_taken_first_is_not_ordered, message_left_out_is_not_ordered, message_never_sent_is_not_ordered, other_label_is_not_ordered, taken_twice_is_not_ordered, taken_from_next_link_is_not_ordered, begun_at_link_one_is_not_ordered, link_left_out_is_not_ordered, link_used_twice_is_not_ordered, moved_to_next_link_is_not_ordered, moved_with_other_label_is_not_ordered}
+use Rattle.rast_examples.proofs.session.sessions_law.Goals as goal
+
+pub returns-clause-taken_in_order_is_ordered : goal.returns-clause-taken_in_order_is_ordered
+returns-clause-taken_in_order_is_ordered c = taken_in_order_is_ordered
+
+pub returns-clause-waiting_message_is_ordered : goal.returns-clause-waiting_message_is_ordered
+returns-clause-waiting_message_is_ordered c = waiting_message_is_ordered
+
+pub returns-clause-moved_message_is_ordered : goal.returns-clause-moved_message_is_ordered
+returns-clause-moved_message_is_ordered c = moved_message_is_ordered
+
+pub returns-clause-second_taken_first_is_not_ordered : goal.returns-clause-second_taken_first_is_not_ordered
+returns-clause-second_taken_first_is_not_ordered c = second_taken_first_is_not_ordered
+
+pub returns-clause-message_left_out_is_not_ordered : goal.returns-clause-message_left_out_is_not_ordered
+returns-clause-message_left_out_is_not_ordered c = message_left_out_is_not_ordered
+
+pub returns-clause-message_never_sent_is_not_ordered : goal.returns-clause-message_never_sent_is_not_ordered
+returns-clause-message_never_sent_is_not_ordered c = message_never_sent_is_not_ordered
+
+pub returns-clause-other_label_is_not_ordered : goal.returns-clause-other_label_is_not_ordered
+returns-clause-other_label_is_not_ordered c = other_label_is_not_ordered
+
+pub returns-clause-taken_twice_is_not_ordered : goal.returns-clause-taken_twice_is_not_ordered
+returns-clause-taken_twice_is_not_ordered c = taken_twice_is_not_ordered
+
+pub returns-clause-taken_from_next_link_is_not_ordered : goal.returns-clause-taken_from_next_link_is_not_ordered
+returns-clause-taken_from_next_link_is_not_ordered c = taken_from_next_link_is_not_ordered
+
+pub returns-clause-begun_at_link_one_is_not_ordered : goal.returns-clause-begun_at_link_one_is_not_ordered
+returns-clause-begun_at_link_one_is_not_ordered c = begun_at_link_one_is_not_ordered
+
+pub returns-clause-link_left_out_is_not_ordered : goal.returns-clause-link_left_out_is_not_ordered
+returns-clause-link_left_out_is_not_ordered c = link_left_out_is_not_ordered
+
+pub returns-clause-link_used_twice_is_not_ordered : goal.returns-clause-link_used_twice_is_not_ordered
+returns-clause-link_used_twice_is_not_ordered c = link_used_twice_is_not_ordered
+
+pub returns-clause-moved_to_next_link_is_not_ordered : goal.returns-clause-moved_to_next_link_is_not_ordered
+returns-clause-moved_to_next_link_is_not_ordered c = moved_to_next_link_is_not_ordered
+
+pub returns-clause-moved_with_other_label_is_not_ordered : goal.returns-clause-moved_with_other_label_is_not_ordered
+returns-clause-moved_with_other_label_is_not_ordered c = moved_with_other_label_is_not_ordered

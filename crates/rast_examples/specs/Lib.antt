@@ -1,0 +1,4 @@
+pub mod Sessions
+pub mod Configurations
+pub mod Runs
+pub mod Views
