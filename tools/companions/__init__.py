@@ -1,0 +1,1 @@
+"""What the companions of `rast` share. They claim nothing: `rast` judges, these only show."""
