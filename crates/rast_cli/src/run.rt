@@ -9,7 +9,7 @@ ghost use Rattle.rast_cli.specs.Answered.{RunComes};
 use crate::answer::Answer;
 use crate::found::{Found, find};
 use crate::said::{Said, say_line};
-use rast_core::Outcome;
+use rast_core::{FullRun, Outcome};
 use rast_io::{Files, LIMIT};
 use rast_items::Event;
 use rast_report::report_text;
@@ -33,8 +33,11 @@ fn report(alloc: Global, program: &Program, budget: u32, trace: bool) -> Result<
     ensures { IfOk result (λ r. IsReport budget trace program.now r.outcome r.text.items r.history.items) }
 {
     let plan = plan(alloc, program)?;
-    let (config, history) = rast_core::run(alloc, program, plan, budget)?;
-    let outcome = config.outcome(program, history.len() as u32, budget);
+    let FullRun {
+        config,
+        history,
+        outcome,
+    } = rast_core::run(alloc, program, plan, budget)?;
     let text = report_text(alloc, program, outcome, &config, &history, trace, true)?;
     Ok(Made {
         outcome,

@@ -10,8 +10,9 @@ pub mod StepBounds
 pub mod ConfigLemmas
 pub mod StepPids
 pub mod RunLemmas
+pub mod HandleLemmas
 pub mod LookLemmas
-pub mod TurnLemmas
+pub mod FullRuns
 pub mod PickLemmas
 pub mod PathLemmas
 pub mod SoundLemmas

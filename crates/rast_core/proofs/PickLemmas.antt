@@ -19,7 +19,7 @@ use Rattle.rast_core.specs.declared.answer.ReplayErr.TheVariants.{At}
 use Rattle.rast_core.proofs.StepPids.{step_pid}
 use Rattle.rast_core.proofs.RunLemmas.{went, replay_more, state_step}
 use Rattle.rast_core.proofs.SoundLemmas.{replay_going, plan_sound}
-use Rattle.rast_core.proofs.TurnLemmas.{work_more}
+use Rattle.rast_core.proofs.FullRuns.{work_more}
 
 -- the run of the first picks, with room for the rest
 pub record IsPartReplay (g : Program) (plan : Plan) (picks : List Pid) (v : Shown) (es : List Event) (done : ℕ) : Type 0 where

@@ -5,6 +5,7 @@ use Rattle.rast_rules.specs.declared.judgement.Plan.{Plan}
 use Rattle.rast_core.specs.Words.{Pid, Event}
 use Rattle.rast_items.specs.Step.{Next as Does, Ready as DReady, Waits as DWaits, Halted as DHalted, Ended as DEnded, Stuck as DStuck}
 use Rattle.rast_items.specs.Run.{State, state_after}
+use Rattle.rast_items.specs.Items.{IsConfig, link_at}
 use Rattle.rast_laws.specs.Sound.{IsReady, IsSound}
 use Rattle.rast_laws.proofs.Ready.{ready_sound}
 use Rattle.rast_core.specs.Shown.{Shown, IsReplay, run_code, code_of, next_of}
@@ -51,3 +52,7 @@ going_by g old new pid r DStuck h l k = absurd l
 
 pub step_going : (g : Program) (old new : Shown) (pid : Pid) (r : Next) → IsGoing g old → StepIs g old pid r new → IsGoing g new
 step_going g old new pid r k t = going_by g old new pid r (next_of g old pid) refl t k
+
+-- each link is provided once, and used before it is provided
+pub going_links : (g : Program) (v : Shown) → IsGoing g v → IsConfig (link_at 0 0) v.items
+going_links g v k = subst (IsConfig (link_at 0 0)) (sym k.replayed.items) (ready_sound (code_of g v) k.events k.state k.ready k.replayed.run).links

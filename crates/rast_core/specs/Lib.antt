@@ -5,3 +5,5 @@ pub mod Edits
 pub mod Bounds
 pub mod Looks
 pub mod Paths
+pub mod Places
+pub mod Handles

@@ -1,15 +1,15 @@
 -- What the calls promise that begin, look at and change configurations.
-use Rattle.std.specs.Prelude.{◌≡◌, false, ℕ, ℤ, pos, ◌+◌, ◌≤◌, ◌<◌, ◌^◌, List, [], ◌∷◌, ◌++◌, map, length, take, Option, Some, None, slice_get, IsSome}
+use Rattle.std.specs.Prelude.{◌≡◌, true, false, ℕ, ℤ, pos, ◌+◌, ◌≤◌, ◌<◌, ◌^◌, List, [], ◌∷◌, ◌++◌, map, length, take, Option, Some, None, slice_get, IsSome}
 use Rattle.rast_terms.specs.declared.program.Program.{Program}
 use Rattle.rast_rules.specs.declared.judgement.Plan.{Plan}
 use Rattle.rast_core.specs.Words.{Pid, Item, P, Proc, Event}
 use Rattle.rast_items.specs.Items.{held}
 use Rattle.rast_items.specs.Deeds.{Code}
-use Rattle.rast_items.specs.Step.{Next as Does, Ready as DReady, Waits as DWaits, Halted as DHalted, Ended as DEnded, Stuck as DStuck}
+use Rattle.rast_items.specs.Step.{Next as Does, Ready as DReady, Waits as DWaits, Halted as DHalted, Ended as DEnded, Stuck as DStuck, Cut, cut, is_proc}
 use Rattle.rast_items.specs.Run.{State, start_of, replay, step_of, pid_of, born, work, work_by}
 use Rattle.rast_items.specs.Ends.{IsFinished}
 use Rattle.rast_laws.specs.Sound.{IsReady, IsSound}
-use Rattle.rast_core.specs.Shown.{Shown, IsReplay, origin, run_code, code_of, next_of, some_ready, outcome}
+use Rattle.rast_core.specs.Shown.{Shown, IsReplay, origin, run_code, code_of, next_of, is_ready, some_ready, first_ready, first_halted, outcome}
 use Rattle.rast_core.specs.declared.answer.Next.{Next}
 use Rattle.rast_core.specs.declared.answer.Next.TheVariants.{Ready, Waits, Halted, Ended}
 use Rattle.rast_core.specs.declared.decision.Decision.{Decision}
@@ -17,7 +17,11 @@ use Rattle.rast_core.specs.declared.decision.Decision.TheVariants.{Does as Do, W
 use Rattle.rast_core.specs.declared.answer.ReplayErr.{ReplayErr}
 use Rattle.rast_core.specs.declared.answer.ReplayErr.TheVariants.{At, Memory}
 use Rattle.rast_core.specs.declared.answer.Outcome.{Outcome}
-use Rattle.rast_core.specs.declared.answer.Outcome.TheVariants.{Running, Finished}
+use Rattle.rast_core.specs.declared.answer.Outcome.TheVariants.{Running, Finished, IndexLimit}
+use Rattle.rast_core.specs.declared.answer.Ahead.{Ahead}
+use Rattle.rast_core.specs.declared.answer.Ahead.TheVariants.{Event as AnEvent, Limit as ALimit, Nothing}
+use Rattle.rast_core.specs.declared.runs.Turn.{Turn}
+use Rattle.rast_core.specs.declared.runs.Turn.TheVariants.{Did, Over}
 
 -- a program that has a main with which a run begins
 abbrev pub CanStart : Program → Type 0
@@ -56,6 +60,17 @@ IsTold (Do event edit child) r = r ≡ Ready event
 IsTold (Waiting l) r = r ≡ Waits l
 IsTold (Halting v) r = r ≡ Halted v
 
+-- the process with this number, which is the first in the list that has it
+pub record IsProcess (v : Shown) (pid : Pid) (p : Proc) : Type 0 where
+  pub place : Cut
+  pub found : cut (is_proc pid) v.items ≡ Some place
+  pub is : place.item ≡ P p
+
+-- what is answered where a process is looked for
+abbrev pub ProcessIs : Shown → Pid → Option Proc → Type 0
+ProcessIs v pid None = cut (is_proc pid) v.items ≡ None
+ProcessIs v pid (Some p) = IsProcess v pid p
+
 -- what is answered of a process that does this next
 abbrev pub Tells : Does → Next → Type 0
 Tells (DReady e items) r = r ≡ Ready e
@@ -86,10 +101,21 @@ StepIsSound g old r new = (es : List Event) (st : State) (e : Event) → IsRepla
 abbrev pub Finishes : Program → Shown → Outcome → Type 0
 Finishes g v o = (es : List Event) (st : State) → IsReplay g v es st → o ≡ Finished → IsFinished (code_of g v) st
 
--- one more event of some process; or nothing changed, and no process has an event
-abbrev pub IsTurn : Program → Shown → Option Event → Shown → Type 0
-IsTurn g old None new = (new ≡ old) × (some_ready g old old.items ≡ false)
-IsTurn g old (Some e) new = (pid : Pid) × StepIs g old pid (Ready e) new × (work_by e + held new.items ≤ held old.items)
+-- the first process that has an event; else none has, and the first that is halted, if one is
+abbrev pub IsAhead : Program → Shown → Ahead → Type 0
+IsAhead g v (AnEvent pid) =
+    (first_ready g v v.items ≡ Some pid) × (is_ready (next_of g v pid) ≡ true)
+IsAhead g v (ALimit pid value) =
+    (first_ready g v v.items ≡ None) × (first_halted g v v.items Finished ≡ IndexLimit pid value)
+IsAhead g v Nothing =
+    (first_ready g v v.items ≡ None) × (first_halted g v v.items Finished ≡ Finished)
+
+-- one more event of some process; or nothing changed, no process has an event, and the run ends so
+abbrev pub IsTurn : Program → Shown → Turn → Shown → Type 0
+IsTurn g old (Over o) new =
+    (new ≡ old) × (some_ready g old old.items ≡ false) × (o ≡ first_halted g old old.items Finished)
+IsTurn g old (Did e) new =
+    (pid : Pid) × StepIs g old pid (Ready e) new × (work_by e + held new.items ≤ held old.items)
 
 -- a run to its end, or to its budget
 pub record IsFullRun (g : Program) (plan : Plan) (budget : ℕ) (v : Shown) (es : List Event) : Type 0 where
@@ -103,6 +129,10 @@ pub record IsFullRun (g : Program) (plan : Plan) (budget : ℕ) (v : Shown) (es 
   pub sound : IsSound (run_code g plan) es state
   pub decided : outcome g v (length es) budget ≡ Running → ⊥
   pub finished : outcome g v (length es) budget ≡ Finished → IsFinished (run_code g plan) state
+
+-- how far a run under a budget came
+abbrev pub CameTo : Program → ℕ → Shown → List Event → Outcome → Type 0
+CameTo g budget v es o = o ≡ outcome g v (length es) budget
 
 -- the run of a list of picks
 pub record Replayed (g : Program) (plan : Plan) (picks : List Pid) (v : Shown) (es : List Event) : Type 0 where

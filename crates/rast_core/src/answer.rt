@@ -28,6 +28,17 @@ pub enum Outcome {
     IndexLimit { pid: Pid, value: u128 },
 }
 
+/// What lies ahead of a configuration.
+#[derive(Clone, Copy, Debug, PartialEq, Eq)]
+pub enum Ahead {
+    /// This is the first process in the list that has an event.
+    Event(Pid),
+    /// No process has an event, and this is the first in the list that is halted, at this value.
+    Limit { pid: Pid, value: u128 },
+    /// No process has an event and none is halted.
+    Nothing,
+}
+
 /// Why a list of picks isn't replayed.
 #[derive(Clone, Copy, Debug, PartialEq, Eq)]
 pub enum ReplayErr {

@@ -1,5 +1,6 @@
 // A configuration as a plain list.
-ghost use Rattle.std.specs.Prelude.{◌≡◌, ◌≤◌, ◌<◌, ◌+◌, ◌^◌, ◌++◌, IfOk, MatchOption, None, Some, [], slice_get, length, option_to_list};
+ghost use Rattle.std.specs.Prelude.{◌≡◌, ◌≤◌, ◌<◌, ◌+◌, ◌^◌, ◌++◌, ◌∷◌, IfOk, IfSome, MatchOption, None, Some};
+ghost use Rattle.std.specs.Prelude.{[], slice_get, length, drop, option_to_list};
 ghost use Rattle.rast_items.specs.Step.{Ended, cut, is_proc};
 ghost use Rattle.rast_items.specs.Items.{held, potential_of};
 ghost use Rattle.rast_items.specs.Run.{work_by};
@@ -7,15 +8,19 @@ ghost use Rattle.rast_laws.specs.Sound.{IsReady};
 ghost use Rattle.rast_core.specs.Words.{Event};
 ghost use Rattle.rast_core.specs.Shown.{next_of, run_code};
 ghost use Rattle.rast_core.specs.Looks.{IsNextAt};
+ghost use Rattle.rast_core.specs.Handles.{Lies, rest, rest_of};
 ghost use Rattle.rast_core.specs.Paths.{AreAfterParents};
 ghost use Rattle.rast_core.specs.Edits.{Decides, IsCutAt, IsStepEdit, edited};
-ghost use Rattle.rast_core.specs.Promises.{CanStart, IsStart, IsSoundReplay, IsGoing, EnabledIs, StepIs, IsTold, StepIsSound};
+ghost use Rattle.rast_core.specs.Promises.{CanStart, IsStart, IsSoundReplay, IsGoing, ProcessIs};
+ghost use Rattle.rast_core.specs.Promises.{EnabledIs, StepIs, IsTold, StepIsSound};
 
 use crate::answer::Next;
 use crate::decide::decide;
 use crate::decision::{Decision, Edit};
 use crate::edit::{apply, note};
 use crate::find::{find_near, find_process};
+use crate::handle::Handle;
+use crate::items::Items;
 use crate::main_process::begin;
 use crate::origin::Origin;
 use rast_items::{Item, Pid, Proc};
@@ -107,15 +112,53 @@ impl Config {
         self.spare
     }
 
-    /// The items in order.
-    pub fn items(&self) -> &[Item]
-        ensures { result.now ≡ self.now.items }
+    /// The items in order, which together hold less than 2^32.
+    pub fn items(&self) -> Items<'_>
+        ensures items { result ≡ self.now.items }
+        ensures potential { held self.now.items < 2 ^ 32 }
     {
-        &self.items
+        Items::of(&self.items)
+    }
+
+    /// Where the first item lies.
+    pub fn first(&self) -> Option<Handle>
+        ensures rest { rest_of self.now result ≡ self.now.items }
+        ensures lies { IfSome result (λ handle. Lies self.now handle) }
+    {
+        Handle::within(0, self.items.len())
+    }
+
+    /// Where the item lies that comes after another.
+    pub fn after(&self, handle: Handle) -> Option<Handle>
+        requires { Lies self.now handle }
+        ensures rest { rest_of self.now result ≡ drop 1 (rest self.now handle) }
+        ensures lies { IfSome result (λ next. Lies self.now next) }
+    {
+        let length = self.items.len();
+        Handle::within(handle.place + 1, length)
+    }
+
+    /// The item that lies there.
+    pub fn get(&self, handle: Handle) -> &Item
+        requires { Lies self.now handle }
+        ensures { rest self.now handle ≡ result.now ∷ drop 1 (rest self.now handle) }
+    {
+        &self.items[handle.place]
+    }
+
+    /// A process by its number, if it is there. It takes no memory.
+    pub fn process(&self, pid: Pid) -> Option<Proc>
+        ensures { ProcessIs self.now pid result }
+    {
+        let place = self.place_of(pid)?;
+        match self.item_at(place) {
+            Item::Proc(proc) => Some(*proc),
+            Item::Msg(_) => unreachable!(),
+        }
     }
 
     /// How many processes were made; they have the numbers below it. Some may have ended.
-    pub fn made(&self) -> u32
+    pub fn process_count(&self) -> u32
         ensures { result ≡ length self.now.origins }
     {
         self.origins.as_slice().len() as u32
@@ -134,7 +177,7 @@ impl Config {
         ensures { result ≡ held self.now.items }
     {
         let mut total = 0u128;
-        for item in &self.items {
+        for item in self.items() {
             total += potential_of(item);
         }
         total
@@ -197,13 +240,14 @@ impl Config {
         }
     }
 
-    /// What the process at a place does next; nothing of a message.
-    pub(crate) fn next_at(&self, program: &Program, place: usize) -> Option<(Pid, Next)>
+    /// What the process does next that lies there; nothing of a message.
+    pub(crate) fn next_at(&self, program: &Program, handle: Handle) -> Option<(Pid, Next)>
         requires going { IsGoing program.now self.now }
-        requires place { place < length self.now.items }
-        ensures { IsNextAt program.now self.now (slice_get self.now.items place) result }
+        requires lies { Lies self.now handle }
+        ensures { IsNextAt program.now self.now (slice_get (rest self.now handle) 0) result }
     {
-        match self.item_at(place) {
+        let place = handle.place;
+        match self.get(handle) {
             Item::Proc(proc) => Some((proc.pid, told(self.decided_at(program, place, proc)))),
             Item::Msg(_) => None,
         }
@@ -215,7 +259,14 @@ impl Config {
         requires at { slice_get self.now.items place ≡ Some (Item.Proc proc.now) }
         ensures { Decides (next_of program.now self.now proc.now.pid) self.now.items place result }
     {
-        decide(program, &self.plan, self.made(), &self.items, place, proc)
+        decide(
+            program,
+            &self.plan,
+            self.process_count(),
+            &self.items,
+            place,
+            proc,
+        )
     }
 
     /// The item at a place.

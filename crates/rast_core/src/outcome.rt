@@ -1,17 +1,18 @@
 // How far a run has come.
-ghost use Rattle.std.specs.Prelude.{◌≡◌, ◌<◌, length, is_some, slice_get, IfSome, IsTrue};
-ghost use Rattle.rast_core.specs.declared.answer.Outcome.{Outcome};
-ghost use Rattle.rast_core.specs.Shown.{outcome, some_ready, first_ready, first_halted, is_ready, next_of};
-ghost use Rattle.rast_core.specs.Looks.{or_halted, ready_item, halted_item};
-ghost use Rattle.rast_core.specs.Promises.{IsGoing, Finishes};
+ghost use Rattle.std.specs.Prelude.{◌≡◌, slice_get};
+ghost use Rattle.rast_core.specs.Shown.{outcome};
+ghost use Rattle.rast_core.specs.Handles.{Lies, rest};
+ghost use Rattle.rast_core.specs.Looks.{ahead_item, earlier};
+ghost use Rattle.rast_core.specs.Promises.{IsAhead, IsGoing, Finishes};
 
-use crate::answer::{Next, Outcome};
-use crate::config::{Config, told};
-use rast_items::Pid;
+use crate::answer::{Ahead, Next, Outcome};
+use crate::config::Config;
+use crate::handle::Handle;
 use rast_terms::Program;
 
 impl Config {
-    /// How far a run of so many events has come that led here, under a budget of events. It takes no memory.
+    /// How far a run of so many events has come that led here, under a budget of events.
+    /// It takes no memory.
     pub fn outcome(&self, program: &Program, events: u32, budget: u32) -> Outcome
         requires { IsGoing program.now self.now }
         ensures value { result ≡ outcome program.now self.now events budget }
@@ -25,75 +26,61 @@ impl Config {
         requires { IsGoing program.now self.now }
         ensures { result ≡ outcome program.now self.now events budget }
     {
-        if self.first_ready(program).is_some() {
-            return if events == budget {
-                Outcome::OutOfBudget
-            } else {
-                Outcome::Running
-            };
-        }
-        match self.first_halted(program) {
-            Some((pid, value)) => Outcome::IndexLimit { pid, value },
-            None => Outcome::Finished,
-        }
-    }
-
-    /// The first process in the list that has an event. It takes no memory.
-    pub fn first_ready(&self, program: &Program) -> Option<Pid>
-        requires { IsGoing program.now self.now }
-        ensures first { result ≡ first_ready program.now self.now self.now.items }
-        ensures some { is_some result ≡ some_ready program.now self.now self.now.items }
-        ensures ready { IfSome result (λ pid. IsTrue (is_ready (next_of program.now self.now pid))) }
-    {
-        for place in 0..self.items().len() {
-            if let Some(pid) = self.ready_at(program, place) {
-                return Some(pid);
+        match self.ahead(program) {
+            Ahead::Event(_) => {
+                if events == budget {
+                    Outcome::OutOfBudget
+                } else {
+                    Outcome::Running
+                }
             }
-        }
-        None
-    }
-
-    /// The process at a place, if it has an event.
-    fn ready_at(&self, program: &Program, place: usize) -> Option<Pid>
-        requires going { IsGoing program.now self.now }
-        requires place { place < length self.now.items }
-        ensures is { result ≡ ready_item program.now self.now (slice_get self.now.items place) }
-        ensures ready { IfSome result (λ pid. IsTrue (is_ready (next_of program.now self.now pid))) }
-    {
-        match self.next_at(program, place) {
-            Some((pid, next)) => match next {
-                Next::Ready(_) => Some(pid),
-                _ => None,
-            },
-            None => None,
+            Ahead::Limit { pid, value } => Outcome::IndexLimit { pid, value },
+            Ahead::Nothing => Outcome::Finished,
         }
     }
 
-    /// The process at a place with its value, if it is halted.
-    fn halted_at(&self, program: &Program, place: usize) -> Option<(Pid, u128)>
-        requires going { IsGoing program.now self.now }
-        requires place { place < length self.now.items }
-        ensures { (o : Outcome) → or_halted result o ≡ halted_item program.now self.now (slice_get self.now.items place) o }
-    {
-        match self.next_at(program, place) {
-            Some((pid, next)) => match next {
-                Next::Halted(value) => Some((pid, value)),
-                _ => None,
-            },
-            None => None,
-        }
-    }
-
-    /// The first process in the list that is halted, and its value.
-    fn first_halted(&self, program: &Program) -> Option<(Pid, u128)>
+    /// What lies ahead: one look at each process, up to the first that has an event.
+    /// It takes no memory.
+    pub fn ahead(&self, program: &Program) -> Ahead
         requires { IsGoing program.now self.now }
-        ensures { (o : Outcome) → or_halted result o ≡ first_halted program.now self.now self.now.items o }
+        ensures { IsAhead program.now self.now result }
     {
-        for place in 0..self.items().len() {
-            if let Some(halted) = self.halted_at(program, place) {
-                return Some(halted);
+        let mut ahead = Ahead::Nothing;
+        let mut at = self.first();
+        while let Some(handle) = at {
+            ahead = earlier(ahead, self.ahead_at(program, handle));
+            if let Ahead::Event(_) = ahead {
+                return ahead;
             }
+            at = self.after(handle);
         }
-        None
+        ahead
+    }
+
+    // What lies ahead of the item that lies there.
+    fn ahead_at(&self, program: &Program, handle: Handle) -> Ahead
+        requires going { IsGoing program.now self.now }
+        requires lies { Lies self.now handle }
+        ensures { result ≡ ahead_item program.now self.now (slice_get (rest self.now handle) 0) }
+    {
+        match self.next_at(program, handle) {
+            Some((pid, next)) => match next {
+                Next::Ready(_) => Ahead::Event(pid),
+                Next::Halted(value) => Ahead::Limit { pid, value },
+                _ => Ahead::Nothing,
+            },
+            None => Ahead::Nothing,
+        }
+    }
+}
+
+/// What lies ahead of some items and then others: an event of any of them before all else.
+fn earlier(ahead: Ahead, later: Ahead) -> Ahead
+    ensures { result ≡ earlier ahead later }
+{
+    match (ahead, later) {
+        (Ahead::Limit { .. }, Ahead::Event(_)) => later,
+        (Ahead::Nothing, _) => later,
+        _ => ahead,
     }
 }

@@ -11,7 +11,7 @@ impl Config {
     /// its ordinal, counted from 1, among the children that its parent has spawned.
     /// So the path names a process in every run in the same way, and its number doesn't.
     ///
-    /// `pid` is the number of a process that was made (`made` tells how many were), which may have ended since.
+    /// `pid` is the number of a process that was made (`process_count` tells how many were), which may have ended since.
     pub fn path(&self, alloc: Global, pid: Pid) -> Result<Vec<u32>, AllocError>
         requires { pid.0 < length self.now.origins }
         ensures { IfOk result (λ path. IsPath self.now pid path.items) }

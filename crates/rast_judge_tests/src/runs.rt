@@ -71,8 +71,10 @@ fn a_run_begins_with_main(rt: HostRuntime) -> Result<(), Fail> {
     };
     let config = Config::start(alloc, &program, plan, 5)?;
     assert_eq!(rt; config.spare(), 5);
-    assert_eq!(rt; config.items().len(), 1);
-    assert_eq!(rt; config.made(), 1);
+    assert_eq!(rt; config.items().count(), 1);
+    assert!(rt; config.process(Pid(0)).is_some());
+    assert!(rt; config.process(Pid(1)).is_none());
+    assert_eq!(rt; config.process_count(), 1);
     assert_eq!(rt; config.held(), 3);
     Ok(())
 }
@@ -86,7 +88,7 @@ fn the_path_of_main_is_empty(rt: HostRuntime) -> Result<(), Fail> {
         paid: Items::new(alloc),
     };
     let config = Config::start(alloc, &program, plan, 0)?;
-    if config.made() > 0 {
+    if config.process_count() > 0 {
         let path = config.path(alloc, Pid(0))?;
         assert!(rt; path.is_empty());
     }

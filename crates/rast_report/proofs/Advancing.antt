@@ -1,24 +1,23 @@
--- A value is printed item by item.
-use Rattle.std.proofs.Common.{◌≡◌, ℕ, zero, suc, ◌+◌, ◌-◌, ◌<◌, ◌≤◌, true, List, [], ◌∷◌, ◌++◌, Option, Some, None, length, get_or, drop, sym, ◌∙◌, ap, ap₂, refl, arith, add-one, append_assoc, codes, subst}
-use Rattle.std.proofs.lemmas.List.{drop_all}
-use Rattle.std.proofs.Math.Seq.{drop-cons}
+-- A value is printed link by link.
+use Rattle.std.proofs.Common.{◌≡◌, ℕ, zero, suc, ◌+◌, ◌-◌, ◌<◌, ◌≤◌, Bool, true, List, [], ◌∷◌, ◌++◌, Option, Some, None, length, drop, sym, ◌∙◌, ap, ap₂, refl, arith, append_assoc, codes, subst, if◌then◌else◌}
 use Rattle.rast_terms.specs.declared.program.Program.{Program}
-use Rattle.rast_core.specs.Words.{Link, Item, M, Msg}
+use Rattle.rast_core.specs.Words.{Link, Item, P, M, Msg, Proc, Side, Client, Provider, Body, Label, End, Chan, Nat, Assert, Pay}
 use Rattle.rast_core.specs.Shown.{Shown}
+use Rattle.rast_core.specs.Handles.{rest, rest_of}
+use Rattle.rast_core.specs.declared.handle.Handle.{Handle}
+use Rattle.rast_core.specs.Promises.{IsGoing}
+use Rattle.rast_core.proofs.SoundLemmas.{going_links}
 use Rattle.rast_items.specs.Links.{same_link}
+use Rattle.rast_items.specs.Items.{hit, times, uses, msg_uses}
 use Rattle.rast_terms.specs.Texts.{Text}
-use Rattle.rast_report.specs.Values.{value_from, message_text, is_client}
-use Rattle.rast_report.specs.Waiting.{waiting_text, behind}
-use Rattle.rast_report.specs.Providers.{place_on, jump, FindsAll}
+use Rattle.rast_report.specs.Values.{value_from, message_text, process_text, is_client}
+use Rattle.rast_report.specs.Waiting.{value_at, waiting_text, behind}
+use Rattle.rast_report.specs.Providers.{is_at, found, handle_on, FindsAll}
 use Rattle.rast_report.specs.declared.providers.Providers.{Providers}
-use Rattle.rast_report.proofs.Places.{value_jumps}
-use Rattle.rast_report.specs.Turns.{value_at, all_text, triple, weight, load, Advances, Goes, TurnsAt, GoesBack}
-use Rattle.rast_report.specs.declared.printing.Waiting.{Waiting}
+use Rattle.rast_report.specs.Printed.{all_text, triple, left, weight, load, Advances, IsUsedBy, Goes, TurnsAt, GoesBack}
 use Rattle.rast_report.specs.declared.printing.Turn.{Turn}
 use Rattle.rast_report.specs.declared.printing.Turn.TheVariants as turn
-
-abbrev pub at_place : Link → ℕ → Waiting
-at_place l p = record { link = l; place = p }
+use Rattle.rast_report.proofs.Finding.{hit_self, found_offers, value_found, IsBehind, used_behind}
 
 nothing_more : (xs : Text) → xs ++ [] ≡ xs
 nothing_more [] = refl
@@ -26,19 +25,11 @@ nothing_more (x ∷ xs) = ap (λ ys. x ∷ ys) (nothing_more xs)
 
 -- ---- what is left
 
-pub triple_some : (k : ℕ) → 1 ≤ triple k
+triple_some : (k : ℕ) → 1 ≤ triple k
 triple_some zero = omega arith
 triple_some (suc k) = let h : 1 ≤ triple k = triple_some k in omega (arith, h)
 
-pub weight_more : (n : ℕ) (ws : List Waiting) (w : Waiting) → weight n (ws ++ w ∷ []) ≡ weight n ws + triple (n - w.place)
-weight_more n [] w = omega arith
-weight_more n (x ∷ ws) w = let h : weight n (ws ++ w ∷ []) ≡ weight n ws + triple (n - w.place) = weight_more n ws w in omega (arith, h)
-
--- one item less is left
-pub triple_less : (n p : ℕ) → p < n → triple (n - p) ≡ triple (n - (p + 1)) + (triple (n - (p + 1)) + triple (n - (p + 1)))
-triple_less n p h = let e : n - p ≡ suc (n - (p + 1)) = omega (arith, h) in ap triple e
-
-pub triple_sum : (d k : ℕ) → triple k ≤ triple (d + k)
+triple_sum : (d k : ℕ) → triple k ≤ triple (d + k)
 triple_sum zero k = let z : 0 + k ≡ k = omega arith in let e : triple (0 + k) ≡ triple k = ap triple z in omega (arith, e)
 triple_sum (suc d) k =
     let z : suc d + k ≡ suc (d + k) = omega arith in
@@ -46,136 +37,148 @@ triple_sum (suc d) k =
     let h : triple k ≤ triple (d + k) = triple_sum d k in
     omega (arith, h, e)
 
--- more items, and more is left
-pub triple_more : (j k : ℕ) → j ≤ k → triple j ≤ triple k
+triple_more : (j k : ℕ) → j ≤ k → triple j ≤ triple k
 triple_more j k h = let e : k - j + j ≡ k = omega (arith, h) in subst (λ (n : ℕ). triple j ≤ triple n) e (triple_sum (k - j) j)
 
--- ---- texts that wait
+-- two later values are less
+triple_two : (i j n : ℕ) → i < n → j < n → triple i + triple j < triple n
+triple_two i j zero a b = absurd (omega (arith, a))
+triple_two i j (suc n) a b =
+    let h : triple i ≤ triple n = triple_more i n (omega (arith, a)) in
+    let k : triple j ≤ triple n = triple_more j n (omega (arith, b)) in
+    let s : 1 ≤ triple n = triple_some n in
+    omega (arith, h, k, s)
+
+triple_one : (i n : ℕ) → i < n → triple i < triple n
+triple_one i n a = let h : triple i + triple i < triple n = triple_two i i n a a in omega (arith, h)
 
 module _ (g : Program) (v : Shown) where
-  pub waits_more : (ws : List Waiting) (w : Waiting) → waiting_text g v (ws ++ w ∷ []) ≡ behind g v w ++ waiting_text g v ws
+  weight_more : (ws : List Link) (w : Link) → weight v (ws ++ w ∷ []) ≡ weight v ws + left v w
+  weight_more [] w = omega arith
+  weight_more (x ∷ ws) w = let h : weight v (ws ++ w ∷ []) ≡ weight v ws + left v w = weight_more ws w in omega (arith, h)
+
+  -- ---- texts that wait
+
+  waits_more : (ws : List Link) (w : Link) → waiting_text g v (ws ++ w ∷ []) ≡ behind g v w ++ waiting_text g v ws
   waits_more [] w = sym (nothing_more (behind g v w))
   waits_more (x ∷ ws) w = ap (λ (t : Text). t ++ behind g v x) (waits_more ws w) ∙ append_assoc (behind g v w) (waiting_text g v ws) (behind g v x)
 
   -- what was written, and then a text that goes on with what was written and more
-  pub written : (old new wrote all more : Text) → new ≡ old ++ wrote → all ≡ wrote ++ more → new ++ more ≡ old ++ all
+  written : (old new wrote all more : Text) → new ≡ old ++ wrote → all ≡ wrote ++ more → new ++ more ≡ old ++ all
   written old new wrote all more n e = ap (λ (t : Text). t ++ more) n ∙ append_assoc old wrote more ∙ ap (λ (t : Text). old ++ t) (sym e)
 
-  -- the value goes on behind the place
-  pub goes_next : (old new wrote : Text) (p : ℕ) (l : Link) (w : Waiting) (ws : List Waiting) → new ≡ old ++ wrote → value_at g v (at_place l p) ≡ wrote ++ value_at g v w → all_text g v new w ws ≡ all_text g v old (at_place l p) ws
-  goes_next old new wrote p l w ws n e = ap (λ (t : Text). t ++ waiting_text g v ws) (written old new wrote (value_at g v (at_place l p)) (value_at g v w) n e)
-
-  pub goes_on : (old new : Text) (p : ℕ) (l : Link) (w : Waiting) (ws : List Waiting) → new ≡ old → value_at g v (at_place l p) ≡ value_at g v w → all_text g v new w ws ≡ all_text g v old (at_place l p) ws
-  goes_on old new p l w ws n e = ap₂ (λ (s t : Text). (s ++ t) ++ waiting_text g v ws) n (sym e)
+  -- the value goes on at another link
+  pub next_advances : (old new : Text) (l k : Link) (ws : List Link) → TurnsAt g v old new l (turn.Next k) → Advances g v old new ws ws l (Some k)
+  next_advances old new l k ws t =
+      let less : left v k < left v l = triple_one (length (found v.items k)) (length (found v.items l)) t.2.1 in
+      (ap (λ (x : Text). x ++ waiting_text g v ws) (written old new t.0 (value_at g v l) (value_at g v k) t.1 t.2.0), omega (arith, less))
 
   -- a sent channel's value comes first
-  pub goes_in : (old new wrote : Text) (p : ℕ) (l : Link) (f w : Waiting) (ws : List Waiting) → new ≡ old ++ wrote → value_at g v (at_place l p) ≡ wrote ++ (value_at g v w ++ behind g v f) →
-      all_text g v new w (ws ++ f ∷ []) ≡ all_text g v old (at_place l p) ws
-  goes_in old new wrote p l f w ws n e =
-      let b = behind g v f in
-      let x = value_at g v w in
+  goes_in : (old new wrote : Text) (l k n : Link) (ws : List Link) → new ≡ old ++ wrote → value_at g v l ≡ wrote ++ (value_at g v k ++ behind g v n) →
+      all_text g v new k (ws ++ n ∷ []) ≡ all_text g v old l ws
+  goes_in old new wrote l k n ws m e =
+      let b = behind g v n in
+      let x = value_at g v k in
       let r = waiting_text g v ws in
-      ap (λ (t : Text). (new ++ x) ++ t) (waits_more ws f)
+      ap (λ (t : Text). (new ++ x) ++ t) (waits_more ws n)
       ∙ sym (append_assoc (new ++ x) b r)
-      ∙ ap (λ (t : Text). t ++ r) (append_assoc new x b ∙ written old new wrote (value_at g v (at_place l p)) (x ++ b) n e)
+      ∙ ap (λ (t : Text). t ++ r) (append_assoc new x b ∙ written old new wrote (value_at g v l) (x ++ b) m e)
+
+  pub sent_advances : (old new : Text) (l k n : Link) (ws after : List Link) → TurnsAt g v old new l (turn.Sent k n) → after ≡ ws ++ n ∷ [] → Advances g v old new ws after l (Some k)
+  sent_advances old new l k n ws after t s =
+      let less : left v k + left v n < left v l = triple_two (length (found v.items k)) (length (found v.items n)) (length (found v.items l)) t.2.1 t.2.2 in
+      subst (λ (ys : List Link). Advances g v old new ws ys l (Some k)) (sym s)
+      (goes_in old new t.0 l k n ws t.1 t.2.0, omega (arith, less, weight_more ws n))
 
   -- the value ends, and none waits
-  pub ends_all : (old mid new wrote : Text) (p : ℕ) (l : Link) (before : List Waiting) → mid ≡ old ++ wrote → value_at g v (at_place l p) ≡ wrote → before ≡ [] → new ≡ mid →
-      new ≡ all_text g v old (at_place l p) before
-  ends_all old mid new wrote p l before m e b n =
-      n ∙ m ∙ ap (λ (t : Text). old ++ t) (sym e) ∙ sym (nothing_more (old ++ value_at g v (at_place l p))) ∙ ap (λ (ws : List Waiting). (old ++ value_at g v (at_place l p)) ++ waiting_text g v ws) (sym b)
+  ends_all : (old mid new wrote : Text) (l : Link) (before : List Link) → mid ≡ old ++ wrote → value_at g v l ≡ wrote → before ≡ [] → new ≡ mid → new ≡ all_text g v old l before
+  ends_all old mid new wrote l before m e b n =
+      n ∙ m ∙ ap (λ (t : Text). old ++ t) (sym e) ∙ sym (nothing_more (old ++ value_at g v l)) ∙ ap (λ (ws : List Link). (old ++ value_at g v l) ++ waiting_text g v ws) (sym b)
 
   -- the value ends, and the last one that waits goes on
-  pub ends_one : (old mid new wrote : Text) (p : ℕ) (l : Link) (before after : List Waiting) (w : Waiting) → mid ≡ old ++ wrote → value_at g v (at_place l p) ≡ wrote → before ≡ after ++ w ∷ [] → new ≡ mid ++ codes ") . " →
-      all_text g v new w after ≡ all_text g v old (at_place l p) before
-  ends_one old mid new wrote p l before after w m e b n =
+  ends_one : (old mid new wrote : Text) (l : Link) (before after : List Link) (w : Link) → mid ≡ old ++ wrote → value_at g v l ≡ wrote → before ≡ after ++ w ∷ [] → new ≡ mid ++ codes ") . " →
+      all_text g v new w after ≡ all_text g v old l before
+  ends_one old mid new wrote l before after w m e b n =
       let x = value_at g v w in
       let r = waiting_text g v after in
       ap (λ (t : Text). (t ++ x) ++ r) n
       ∙ ap (λ (t : Text). t ++ r) (append_assoc mid (codes ") . ") x)
       ∙ append_assoc mid (behind g v w) r
       ∙ ap (λ (t : Text). mid ++ t) (sym (waits_more after w))
-      ∙ ap₂ (λ (s : Text) (ws : List Waiting). s ++ waiting_text g v ws) (m ∙ ap (λ (t : Text). old ++ t) (sym e)) (sym b)
+      ∙ ap₂ (λ (s : Text) (ws : List Link). s ++ waiting_text g v ws) (m ∙ ap (λ (t : Text). old ++ t) (sym e)) (sym b)
 
-  -- ---- at an item
+  back_less : (l : Link) (before after : List Link) (w : Link) → before ≡ after ++ w ∷ [] → load v w after < load v l before
+  back_less l before after w b = let e : weight v before ≡ weight v (after ++ w ∷ []) = ap (weight v) b in omega (arith, e, weight_more after w, triple_some (length (found v.items l)))
 
-  pub opened : (p : ℕ) (i : Item) → p < length v.items → i ≡ get_or v.items p i → drop p v.items ≡ i ∷ drop (p + 1) v.items
-  opened p i h here = rw (drop-cons v.items p i h, add-one, ← here) refl
+  pub end_advances : (old mid new : Text) (l : Link) (before after : List Link) (next : Option Link) → TurnsAt g v old mid l turn.Ends → GoesBack mid new before after next → Advances g v old new before after l next
+  end_advances old mid new l before after None t b = ends_all old mid new t.0 l before t.1 t.2 b.0 b.1
+  end_advances old mid new l before after (Some w) t b = (ends_one old mid new t.0 l before after w t.1 t.2 b.0 b.1, back_less l before after w b.0)
 
-  pub at_message : (m : Msg) (old new : Text) (p : ℕ) (l : Link) (t : Turn) → p < length v.items → M m ≡ get_or v.items p (M m) → same_link m.link l ≡ true → is_client m.toward ≡ true →
-      Goes g m old new t → TurnsAt g v old new p l t
-  at_message m old new p l t h here same client goes = by t goes
+  -- ---- what stands at a link
+
+  value_here : (l : Link) (xs : List Item) → found v.items l ≡ xs → value_at g v l ≡ value_from g v xs l
+  value_here l xs f = value_found g v v.items l ∙ ap (λ (is : List Item). value_from g v is l) f
+
+  -- no value stands there
+  pub none_stands : (t : Providers) (o : Option Handle) (old new : Text) (l : Link) → FindsAll t v → o ≡ handle_on t l → ((h : Handle) → o ≡ Some h → ⊥) → new ≡ old ++ codes "..." → TurnsAt g v old new l turn.Ends
+  none_stands t None old new l f e h n =
+      let none : found v.items l ≡ [] = sym (f l).0 ∙ ap (rest_of v) (sym e) in
+      (codes "...", n, value_here l [] none)
+  none_stands t (Some q) old new l f e h n = absurd (h q refl)
+
+  -- the item that is read at its handle is the first that is found
+  pub stands_at : (t : Providers) (o : Option Handle) (l : Link) (h : Handle) (i j : Item) → FindsAll t v → o ≡ handle_on t l → o ≡ Some h → rest v h ≡ i ∷ drop 1 (rest v h) → i ≡ j → found v.items l ≡ j ∷ drop 1 (rest v h)
+  stands_at t o l h i j f e s r k = sym (f l).0 ∙ (ap (rest_of v) (sym e ∙ s) ∙ (r ∙ ap (λ (x : Item). x ∷ drop 1 (rest v h)) k))
+
+  offered_by : (p : Proc) (l : Link) (is : List Item) → found v.items l ≡ P p ∷ is → same_link p.own l ≡ true
+  offered_by p l is f = found_offers v.items l (P p) is f
+
+  pub process_stands : (p : Proc) (old new wrote : Text) (l : Link) (is : List Item) → found v.items l ≡ P p ∷ is → wrote ≡ process_text g v p → new ≡ old ++ wrote → TurnsAt g v old new l turn.Ends
+  process_stands p old new wrote l is f w n =
+      (wrote, n, value_here l (P p ∷ is) f ∙ (ap (λ (b : Bool). if b then process_text g v p else value_from g v is l) (offered_by p l is f) ∙ sym w))
+
+  to_client : (s : Side) (l k : Link) → is_at (if is_client s then Some k else None) l ≡ true → (s ≡ Client) × (same_link k l ≡ true)
+  to_client Client l k h = (refl, h)
+  to_client Provider l k h = cc
+
+  used_here : (m : Msg) (k : Link) → m.toward ≡ Client → IsUsedBy m k → 1 ≤ times k (uses (M m))
+  used_here m k c u = subst (λ (s : Side). 1 ≤ times k (msg_uses s m)) (sym c) u
+
+  pub message_stands : (m : Msg) (old new : Text) (l : Link) (t : Turn) (is : List Item) → IsGoing g v → found v.items l ≡ M m ∷ is → Goes g m old new t → TurnsAt g v old new l t
+  message_stands m old new l t is going f goes = by t goes
     where
-      value_is : value_from g v (drop p v.items) l ≡ message_text g m.body m.potential (value_from g v (drop (p + 1) v.items)) m.next
-      value_is = ap (λ is. value_from g v is l) (opened p (M m) h here) ∙ rw (same, client) refl
+      client : (m.toward ≡ Client) × (same_link m.link l ≡ true)
+      client = to_client m.toward l m.link (found_offers v.items l (M m) is f)
 
-      by : (t : Turn) → Goes g m old new t → TurnsAt g v old new p l t
-      by turn.On goes = absurd (goes.2 (λ k. []))
-      by turn.Ends goes = (goes.0, goes.1, value_is ∙ goes.2 (value_from g v (drop (p + 1) v.items)))
-      by (turn.Next k) goes = (goes.0, goes.1, value_is ∙ goes.2 (value_from g v (drop (p + 1) v.items)))
-      by (turn.Sent k n) goes = (goes.0, goes.1, value_is ∙ goes.2 (value_from g v (drop (p + 1) v.items)))
+      value_is : value_at g v l ≡ message_text g m.body m.potential (value_from g v is) m.next
+      value_is = value_here l (M m ∷ is) f ∙ rw (client.0, client.1) refl
 
-  pub at_end : (p : ℕ) (l : Link) → length v.items ≤ p → value_at g v (at_place l p) ≡ codes "..."
-  at_end p l h = ap (λ is. value_from g v is l) (drop_all p v.items h)
+      later : (k : Link) → IsUsedBy m k → IsBehind g v l k is
+      later k u = used_behind g v l k (M m) is (going_links g v going) f (used_here m k client.0 u)
 
-  -- ---- turns
+      by : (t : Turn) → Goes g m old new t → TurnsAt g v old new l t
+      by turn.Ends goes = (goes.0, goes.1, value_is ∙ goes.2 (value_from g v is))
+      by (turn.Next k) goes =
+          let b = later k goes.3 in
+          (goes.0, goes.1, (value_is ∙ (goes.2 (value_from g v is) ∙ ap (λ (x : Text). goes.0 ++ x) b.same), b.later))
+      by (turn.Sent k n) goes =
+          let b = later k goes.3.0 in
+          let c = later n goes.3.1 in
+          let e = value_is ∙ (goes.2 (value_from g v is) ∙ ap₂ (λ (x y : Text). goes.0 ++ (x ++ (codes ") . " ++ y))) b.same c.same) in
+          (goes.0, goes.1, (e, b.later, c.later))
 
-  -- the value at a link behind a place
-  pub record IsBehind (p : ℕ) (k : Link) (w : Waiting) : Type 0 where
-    pub same : value_at g v w ≡ value_from g v (drop (p + 1) v.items) k
-    pub less : p < w.place
+-- ---- links that a message uses
 
-  pub behind_by : (t : Providers) (p n : ℕ) (k : Link) (w : Waiting) (xs : List Item) → FindsAll t v.items → xs ≡ v.items → n ≡ length xs → p < n → w ≡ at_place k (jump (place_on t k) p n) → IsBehind p k w
-  behind_by t p n k w xs f same len h e =
-      let m : n ≡ length v.items = len ∙ ap length same in
-      let h' : p < length v.items = omega (arith, h, m) in
-      let e' : at_place k (jump (place_on t k) p (length v.items)) ≡ w = sym (e ∙ ap (λ (j : ℕ). at_place k (jump (place_on t k) p j)) m) in
-      let j = value_jumps g v (place_on t k) p k (sym (f k)) h' in
-      subst (IsBehind p k) e' (record { same = j.0; less = j.1 })
+pub uses_next : (m : Msg) → (m.body ≡ End → ⊥) → IsUsedBy m m.next
+uses_next m h = by m.body refl
+  where
+    by : (b : Body) → m.body ≡ b → IsUsedBy m m.next
+    by (Label x) e = rw e (let s : hit m.next m.next ≡ 1 = hit_self m.next in omega (arith, s))
+    by End e = absurd (h e)
+    by (Chan k) e = rw e (let s : hit m.next m.next ≡ 1 = hit_self m.next in omega (arith, s))
+    by (Nat n) e = rw e (let s : hit m.next m.next ≡ 1 = hit_self m.next in omega (arith, s))
+    by Assert e = rw e (let s : hit m.next m.next ≡ 1 = hit_self m.next in omega (arith, s))
+    by Pay e = rw e (let s : hit m.next m.next ≡ 1 = hit_self m.next in omega (arith, s))
 
-  pub inside : (p : ℕ) (xs : List Item) → xs ≡ v.items → p < length xs → p < length v.items
-  inside p xs same h = subst (λ (ys : List Item). p < length ys) same h
-
-  less_left : (p : ℕ) (l : Link) (w : Waiting) (ws : List Waiting) → p < length v.items → p < w.place → load (length v.items) w ws < load (length v.items) (at_place l p) ws
-  less_left p l w ws h b =
-      let n = length v.items in
-      let k : n - w.place ≤ n - (p + 1) = omega (arith, b) in
-      omega (arith, triple_less n p h, triple_some (n - (p + 1)), triple_more (n - w.place) (n - (p + 1)) k)
-
-  pub on_advances : (old new : Text) (p : ℕ) (l : Link) (ws : List Waiting) (w : Waiting) → p < length v.items → TurnsAt g v old new p l turn.On → IsBehind p l w → Advances g v old new ws ws (at_place l p) (Some w)
-  on_advances old new p l ws w h t b = (goes_on old new p l w ws t.0 (t.1 ∙ sym b.same), less_left p l w ws h b.less)
-
-  pub next_advances : (old new : Text) (p : ℕ) (l k : Link) (ws : List Waiting) (w : Waiting) → p < length v.items → TurnsAt g v old new p l (turn.Next k) → IsBehind p k w → Advances g v old new ws ws (at_place l p) (Some w)
-  next_advances old new p l k ws w h t b = (goes_next old new t.0 p l w ws t.1 (t.2 ∙ ap (λ (x : Text). t.0 ++ x) (sym b.same)), less_left p l w ws h b.less)
-
-  sent_less : (p : ℕ) (l : Link) (f w : Waiting) (ws : List Waiting) → p < length v.items → p < f.place → p < w.place → load (length v.items) w (ws ++ f ∷ []) < load (length v.items) (at_place l p) ws
-  sent_less p l f w ws h a b =
-      let n = length v.items in
-      let j : n - f.place ≤ n - (p + 1) = omega (arith, a) in
-      let k : n - w.place ≤ n - (p + 1) = omega (arith, b) in
-      omega (arith, triple_less n p h, triple_some (n - (p + 1)), weight_more n ws f, triple_more (n - f.place) (n - (p + 1)) j, triple_more (n - w.place) (n - (p + 1)) k)
-
-  pub sent_advances : (old new : Text) (p : ℕ) (l k next : Link) (ws after : List Waiting) (f w : Waiting) → p < length v.items → TurnsAt g v old new p l (turn.Sent k next) → IsBehind p next f → IsBehind p k w → after ≡ ws ++ f ∷ [] →
-      Advances g v old new ws after (at_place l p) (Some w)
-  sent_advances old new p l k next ws after f w h t a b s =
-      let e : value_at g v (at_place l p) ≡ t.0 ++ (value_at g v w ++ behind g v f) = t.2 ∙ ap₂ (λ (x y : Text). t.0 ++ (x ++ (codes ") . " ++ y))) (sym b.same) (sym a.same) in
-      subst (λ (ys : List Waiting). Advances g v old new ws ys (at_place l p) (Some w)) (sym s)
-      (goes_in old new t.0 p l f w ws t.1 e, sent_less p l f w ws h a.less b.less)
-
-  back_less : (p : ℕ) (l : Link) (before after : List Waiting) (w : Waiting) → before ≡ after ++ w ∷ [] → load (length v.items) w after < load (length v.items) (at_place l p) before
-  back_less p l before after w b = let e : weight (length v.items) before ≡ weight (length v.items) (after ++ w ∷ []) = ap (weight (length v.items)) b in omega (arith, e, weight_more (length v.items) after w, triple_some (length v.items - p))
-
-  pub end_advances : (old mid new wrote : Text) (p : ℕ) (l : Link) (before after : List Waiting) (next : Option Waiting) → mid ≡ old ++ wrote → value_at g v (at_place l p) ≡ wrote → GoesBack mid new before after next →
-      Advances g v old new before after (at_place l p) next
-  end_advances old mid new wrote p l before after None m e b = ends_all old mid new wrote p l before m e b.0 b.1
-  end_advances old mid new wrote p l before after (Some w) m e b = (ends_one old mid new wrote p l before after w m e b.0 b.1, back_less p l before after w b.0)
-
-  pub past_end : (old mid new : Text) (p : ℕ) (l : Link) (before after : List Waiting) (next : Option Waiting) (xs : List Item) → xs ≡ v.items → length xs ≤ p → mid ≡ old ++ codes "..." → GoesBack mid new before after next →
-      Advances g v old new before after (at_place l p) next
-  past_end old mid new p l before after next xs same h m b =
-      let h' : length v.items ≤ p = subst (λ (ys : List Item). length ys ≤ p) same h in
-      end_advances old mid new (codes "...") p l before after next m (at_end p l h') b
-
-  pub item_ends : (old mid new : Text) (p : ℕ) (l : Link) (before after : List Waiting) (next : Option Waiting) → TurnsAt g v old mid p l turn.Ends → GoesBack mid new before after next →
-      Advances g v old new before after (at_place l p) next
-  item_ends old mid new p l before after next t b = end_advances old mid new t.0 p l before after next t.1 t.2 b
+pub uses_sent : (m : Msg) (k : Link) → m.body ≡ Chan k → IsUsedBy m k
+uses_sent m k e = rw e (let s : hit k k ≡ 1 = hit_self k in omega (arith, s))

@@ -1,4 +1,4 @@
 pub mod Shows
 pub mod TraceLemmas
-pub mod Places
+pub mod Finding
 pub mod Advancing

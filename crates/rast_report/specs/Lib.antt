@@ -2,6 +2,6 @@ pub mod Texts
 pub mod Values
 pub mod Reports
 pub mod Waiting
-pub mod Turns
+pub mod Printed
 pub mod Amounts
 pub mod Providers

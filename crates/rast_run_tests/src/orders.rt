@@ -157,7 +157,7 @@ fn run_by_dice(alloc: Global, program: &Program, seed: u32) -> Result<Seen, Allo
     let mut history = Vec::new(alloc);
     let mut dice = seed;
     for _turn in 0..4000 {
-        let made = config.made();
+        let made = config.process_count();
         if made == 0 {
             break;
         }
@@ -172,7 +172,7 @@ fn run_by_dice(alloc: Global, program: &Program, seed: u32) -> Result<Seen, Allo
     Ok(Seen {
         steps: history.len(),
         finished: config.outcome(program, 0, 1) == Outcome::Finished,
-        in_order: is_in_order(alloc, &history, config.made())?,
+        in_order: is_in_order(alloc, &history, config.process_count())?,
     })
 }
 

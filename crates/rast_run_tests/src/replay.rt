@@ -109,7 +109,7 @@ fn look_at(
     let plan = plan(alloc, program)?;
     match replay(alloc, program, plan, picks) {
         Ok((config, history)) => {
-            if pid >= config.made() {
+            if pid >= config.process_count() {
                 return Ok(None);
             }
             let path = config.path(alloc, Pid(pid))?;

@@ -29,7 +29,7 @@ decide-requires-clause-going c = λ s.
     let k : IsCutAt (is_proc p.pid) c.deref.result.now c.args.place = unique_cut p.pid c.deref.result.now c.args.place (P p)
     (subst (λ (xs : List Item). total (numbered_as p.pid) xs ≤ 1) (sym c.deref.ensures.value) (c.self.invariant.2.once p.pid)) h (self_passes p) in
     going_unstuck c.args.program.now v p.pid (subst (IsGoing c.args.program.now) (sym c.self.view_is) c.requires.going)
-    (step_here c.args.program.now v c.deref.result.now c.args.place c.made.result p c.deref.ensures.value (c.made.ensures ∙ sym (ap (λ (w : Shown). length w.origins) c.self.view_is)) k h ∙ s)
+    (step_here c.args.program.now v c.deref.result.now c.args.place c.process_count.result p c.deref.ensures.value (c.process_count.ensures ∙ sym (ap (λ (w : Shown). length w.origins) c.self.view_is)) k h ∙ s)
 
 pub returns : goal.returns
 returns c =
@@ -41,4 +41,4 @@ returns c =
     let k : IsCutAt (is_proc p.pid) c.deref.result.now c.args.place = unique_cut p.pid c.deref.result.now c.args.place (P p)
     (subst (λ (xs : List Item). total (numbered_as p.pid) xs ≤ 1) (sym c.deref.ensures.value) (c.self.invariant.2.once p.pid)) h (self_passes p) in
     subst (λ (s : Shown). Decides (next_of c.args.program.now s p.pid) s.items c.args.place c.decide.result) c.self.view_is
-    (decided_here c.args.program.now v c.deref.result.now c.args.place c.made.result p c.decide.result c.deref.ensures.value (c.made.ensures ∙ sym (ap (λ (s : Shown). length s.origins) c.self.view_is)) k h c.decide.ensures)
+    (decided_here c.args.program.now v c.deref.result.now c.args.place c.process_count.result p c.decide.result c.deref.ensures.value (c.process_count.ensures ∙ sym (ap (λ (s : Shown). length s.origins) c.self.view_is)) k h c.decide.ensures)

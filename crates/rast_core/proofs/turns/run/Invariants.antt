@@ -1,5 +1,0 @@
-use Rattle.rast_core.proofs.TurnLemmas.{IsPartRun}
-use Rattle.rast_core.proofs.turns.run.Given as goal
-
-abbrev pub invariant-loop-done : goal.invariant-loop-done
-invariant-loop-done l = IsPartRun l.program l.fn.plan l.budget l.config l.history.items l._done
