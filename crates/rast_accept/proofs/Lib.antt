@@ -1,3 +1,5 @@
 pub mod Reasons
 pub mod Made
 pub mod Clear
+pub mod Counting
+pub mod Formed

@@ -14,12 +14,14 @@ use Rattle.rast_resolve.specs.Programs.{resolved}
 use Rattle.rast_made.specs.WellMade.{IsWellMade}
 use Rattle.rast_rules.specs.Rules.{IsAccepted}
 use Rattle.rast_check.specs.declared.answer.CheckErr.{CheckErr}
-use Rattle.rast_check.specs.declared.answer.CheckErr.TheVariants as check
 use Rattle.rast_check.specs.Decided.{searched}
-use Rattle.rast_check.specs.Formed.{answer}
+use Rattle.rast_check.specs.Questions.{answer}
 use Rattle.rast_check.specs.Refusals.{IsRefusal}
 use Rattle.rast_check.specs.Shown.{Refutes}
-use Rattle.rast_accept.specs.Loading.{Says, Loads, SaysNone, IsUnloaded, of_form, of_names, of_check}
+use Rattle.rast_accept.specs.Loading.{Says, Loads, SaysNone, IsOfCheck, IsUnloaded, of_form, of_names}
+use Rattle.rast_accept.specs.declared.refusal.Refusal.TheVariants.{NoFile, NotYet, Names, Rules}
+use Rattle.rast_accept.specs.declared.refusal.LoadErr.{LoadErr}
+use Rattle.rast_accept.specs.declared.refusal.LoadErr.TheVariants.{Refused, Memory}
 
 pub read_reason : (text : List ℕ) (why : FormErr) → IsUnread text why → IsUnloaded text (of_form why)
 read_reason text (form.NoFile fault) h = h
@@ -48,22 +50,25 @@ module _ (text : List ℕ) (file : File) (is : IsBuiltFile text file) (only : (o
   names_reason (name.Limit n) h = (record { file = file; is = is; faulty = h }, names_fault (name.Limit n) h)
   names_reason name.Memory h = tt
 
-  module _ (r : Resolved) (h : resolved file ≡ Ok r) where
-    pub says : Says text r.program
-    says = record { file = file; is = is; resolved_to = r; resolved_is = h; program_is = refl }
+  pub says : (r : Resolved) → resolved file ≡ Ok r → Says text r.program
+  says r h = record { file = file; is = is; resolved_to = r; resolved_is = h; program_is = refl }
 
-    says_one : (other : Program) → Says text other → other ≡ r.program
-    says_one other s = s.program_is ∙ ap (λ (x : Resolved). x.program) (same_value s.resolved_to r (sym (said other s) ∙ h))
+  pub says_one : (r : Resolved) → resolved file ≡ Ok r → (other : Program) → Says text other → other ≡ r.program
+  says_one r h other s = s.program_is ∙ ap (λ (x : Resolved). x.program) (same_value s.resolved_to r (sym (said other s) ∙ h))
 
-    pub check_reason : (e : CheckErr) → IsRefusal (answer searched r.program) e → Refutes r.program e → IsUnloaded text (of_check r.program e)
-    check_reason (check.BadType e) q refutes = (says, says_one, q, refutes)
-    check_reason (check.BadDecl k e) q refutes = (says, says_one, q, refutes)
-    check_reason (check.BadEquation e) q refutes = (says, says_one, q, refutes)
-    check_reason (check.Refused s k e) q refutes = (says, says_one, q, refutes)
-    check_reason (check.Bound s k stop) q refutes = (says, says_one, q, refutes)
-    check_reason (check.Limit s stop) q refutes = (says, says_one, q, refutes)
-    check_reason check.Memory q refutes = tt
+module _ (text : List ℕ) (g : Program) (says : Says text g) (one : (other : Program) → Says text other → other ≡ g) where
+  pub check_reason : (e : CheckErr) (l : LoadErr) → IsRefusal (answer searched g) e → Refutes g e → IsOfCheck g e l → IsUnloaded text l
+  check_reason e (Refused (Rules h f)) q refutes of = (
+    subst (Says text) (sym of.0) says,
+    λ other s. one other s ∙ sym of.0,
+    subst (λ (x : Program). IsRefusal (answer searched x) f.why) (sym of.0) (subst (IsRefusal (answer searched g)) (sym of.1) q),
+    subst (λ (x : Program). Refutes x f.why) (sym of.0) (subst (Refutes g) (sym of.1) refutes),
+  )
+  check_reason e (Refused (NoFile fault)) q refutes of = absurd of
+  check_reason e (Refused (NotYet at)) q refutes of = absurd of
+  check_reason e (Refused (Names f)) q refutes of = absurd of
+  check_reason e Memory q refutes of = tt
 
-    pub loads : (checked : Program) → checked ≡ r.program → IsWellMade checked → IsAccepted checked → answer searched r.program ≡ None → Loads text checked
-    loads checked same made accepted clear =
-        record { says = subst (Says text) (sym same) says; only = λ other s. says_one other s ∙ sym same; made = made; accepted = accepted; clear = ap (answer searched) same ∙ clear }
+  pub loads : (checked : Program) → checked ≡ g → IsWellMade checked → IsAccepted checked → answer searched g ≡ None → Loads text checked
+  loads checked same made accepted clear =
+      record { says = subst (Says text) (sym same) says; only = λ other s. one other s ∙ sym same; made = made; accepted = accepted; clear = ap (answer searched) same ∙ clear }

@@ -1,5 +1,5 @@
 -- The accepted program that a text says, or the first reason why it says none.
-use Rattle.std.specs.Prelude.{◌≡◌, ℕ, List, Option, None, Ok, Err}
+use Rattle.std.specs.Prelude.{◌≡◌, ℕ, false, List, None, Ok, Err}
 use Rattle.rast_ast.specs.declared.file.File.{File}
 use Rattle.rast_terms.specs.declared.program.Program.{Program}
 use Rattle.rast_load.specs.Reading.{IsFile, IsFault}
@@ -13,12 +13,13 @@ use Rattle.rast_resolve.specs.Programs.{resolved}
 use Rattle.rast_made.specs.WellMade.{IsWellMade}
 use Rattle.rast_rules.specs.Rules.{IsAccepted}
 use Rattle.rast_check.specs.declared.answer.CheckErr.{CheckErr}
-use Rattle.rast_check.specs.declared.answer.CheckErr.TheVariants as check
 use Rattle.rast_check.specs.Decided.{searched}
-use Rattle.rast_check.specs.Formed.{answer}
 use Rattle.rast_check.specs.Refusals.{IsRefusal}
-use Rattle.rast_check.specs.Questions as asked
+use Rattle.rast_check.specs.Questions.{answer}
 use Rattle.rast_check.specs.Shown.{Refutes}
+use Rattle.rast_accept.specs.Faults.{is_rule_fault}
+use Rattle.rast_accept.specs.declared.fault.NameFault.{NameFault}
+use Rattle.rast_accept.specs.declared.fault.NameFault.TheVariants as fault
 use Rattle.rast_accept.specs.declared.refusal.Refusal.{Refusal}
 use Rattle.rast_accept.specs.declared.refusal.Refusal.TheVariants.{NoFile, NotYet, Names, Rules}
 use Rattle.rast_accept.specs.declared.refusal.LoadErr.{LoadErr}
@@ -31,6 +32,14 @@ pub record Says (text : List ℕ) (program : Program) : Type 0 where
   pub resolved_to : Resolved
   pub resolved_is : resolved file ≡ Ok resolved_to
   pub program_is : program ≡ resolved_to.program
+
+-- a fault in names as the look-up of names has it
+abbrev pub name_err : NameFault → NameErr
+name_err (fault.Unknown n) = name.Unknown n
+name_err (fault.Twice n) = name.Twice n
+name_err (fault.Arity n) = name.Arity n
+name_err (fault.BadMain n) = name.BadMain n
+name_err (fault.Limit n) = name.Limit n
 
 -- the text is a file of built forms of whose names this is the first fault
 pub record IsNamesFault (text : List ℕ) (e : NameErr) : Type 0 where
@@ -46,11 +55,6 @@ pub record Loads (text : List ℕ) (program : Program) : Type 0 where
   pub accepted : IsAccepted program
   pub clear : answer searched program ≡ None
 
--- this is what the check of a program refuses; want of memory isn't
-abbrev pub IsRefused : Option asked.Refusal → CheckErr → Type 0
-IsRefused o check.Memory = ⊥
-IsRefused o e = IsRefusal o e
-
 -- the text says no program
 abbrev pub SaysNone : List ℕ → Type 0
 SaysNone text = (program : Program) → Says text program → ⊥
@@ -60,8 +64,9 @@ SaysNone text = (program : Program) → Says text program → ⊥
 abbrev pub IsReason : List ℕ → Refusal → Type 0
 IsReason text (NoFile fault) = IsFault text fault × ((file : File) → IsFile text file → ⊥)
 IsReason text (NotYet at) = (file : File) × IsFile text file × IsUnbuiltAt text at × (IsBuilt text → ⊥)
-IsReason text (Names e) = IsNamesFault text e × SaysNone text
-IsReason text (Rules program e) = Says text program × ((other : Program) → Says text other → other ≡ program) × IsRefused (answer searched program) e × Refutes program e
+IsReason text (Names f) = IsNamesFault text (name_err f) × SaysNone text
+IsReason text (Rules program f) =
+    Says text program × ((other : Program) → Says text other → other ≡ program) × IsRefusal (answer searched program) f.why × Refutes program f.why
 
 abbrev pub IsUnloaded : List ℕ → LoadErr → Type 0
 IsUnloaded text (Refused why) = IsReason text why
@@ -75,9 +80,15 @@ of_form (form.NotYet at) = Refused (NotYet at)
 of_form form.Memory = Memory
 
 abbrev pub of_names : NameErr → LoadErr
+of_names (name.Unknown n) = Refused (Names (fault.Unknown n))
+of_names (name.Twice n) = Refused (Names (fault.Twice n))
+of_names (name.Arity n) = Refused (Names (fault.Arity n))
+of_names (name.BadMain n) = Refused (Names (fault.BadMain n))
+of_names (name.Limit n) = Refused (Names (fault.Limit n))
 of_names name.Memory = Memory
-of_names e = Refused (Names e)
 
-abbrev pub of_check : Program → CheckErr → LoadErr
-of_check g check.Memory = Memory
-of_check g e = Refused (Rules g e)
+-- a refusal of the check of a program, or want of memory
+abbrev pub IsOfCheck : Program → CheckErr → LoadErr → Type 0
+IsOfCheck g e (Refused (Rules h f)) = (h ≡ g) × (f.why ≡ e)
+IsOfCheck g e (Refused why) = ⊥
+IsOfCheck g e Memory = is_rule_fault e ≡ false

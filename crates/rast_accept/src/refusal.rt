@@ -1,12 +1,13 @@
 // Why a text says no accepted program, with the exit status and the line of each reason.
-ghost use Rattle.std.specs.Prelude.{◌≡◌, ◌++◌, IfOk, codes};
+ghost use Rattle.std.specs.Prelude.{◌≡◌, ◌++◌, IfOk, codes, true};
+ghost use Rattle.rast_accept.specs.Faults.{is_type_fault, is_same_fault, is_rule_fault};
 ghost use Rattle.rast_accept.specs.Lines.{named_line, name_line, name_status, same_status, type_status, check_status, refusal_line, refusal_status};
 
+use crate::fault::{NameFault, RuleFault};
 use rast_ast::Name;
 use rast_check::CheckErr;
 use rast_equal::{SameErr, TypeErr};
 use rast_load::TextFault;
-use rast_resolve::NameErr;
 use rast_terms::Program;
 use std::alloc::{AllocError, Global};
 
@@ -26,14 +27,14 @@ pub enum Refusal {
     /// Its names are faulty.
     Names {
         /// The first fault.
-        why: NameErr,
+        fault: NameFault,
     },
     /// It says a program that isn't accepted.
     Rules {
         /// The program.
         program: Program,
         /// The first place that is false, undecided or over a limit.
-        why: CheckErr,
+        fault: RuleFault,
     },
 }
 
@@ -49,20 +50,20 @@ pub enum LoadErr {
     Memory,
 }
 
-fn name_status(why: &NameErr) -> u8
-    ensures { result ≡ name_status why.now }
+fn name_status(fault: &NameFault) -> u8
+    ensures { result ≡ name_status fault.now }
 {
-    match why {
-        NameErr::Limit { .. } => 5,
-        NameErr::Unknown { .. } => 1,
-        NameErr::Twice { .. } => 1,
-        NameErr::Arity { .. } => 1,
-        NameErr::BadMain { .. } => 1,
-        NameErr::Memory => 1,
+    match fault {
+        NameFault::Limit { .. } => 5,
+        NameFault::Unknown { .. } => 1,
+        NameFault::Twice { .. } => 1,
+        NameFault::Arity { .. } => 1,
+        NameFault::BadMain { .. } => 1,
     }
 }
 
 fn same_status(why: &SameErr) -> u8
+    requires { is_same_fault why.now ≡ true }
     ensures { result ≡ same_status why.now }
 {
     match why {
@@ -70,21 +71,23 @@ fn same_status(why: &SameErr) -> u8
         SameErr::Fails { .. } => 1,
         SameErr::Wanted { .. } => 1,
         SameErr::Left => 1,
-        SameErr::Memory => 1,
+        SameErr::Memory => unreachable!(),
     }
 }
 
 fn type_status(why: &TypeErr) -> u8
+    requires { is_type_fault why.now ≡ true }
     ensures { result ≡ type_status why.now }
 {
     match why {
         TypeErr::Bound { .. } => 5,
         TypeErr::Invalid { .. } => 1,
-        TypeErr::Memory => 1,
+        TypeErr::Memory => unreachable!(),
     }
 }
 
 fn check_status(why: &CheckErr) -> u8
+    requires { is_rule_fault why.now ≡ true }
     ensures { result ≡ check_status why.now }
 {
     match why {
@@ -94,7 +97,7 @@ fn check_status(why: &CheckErr) -> u8
         CheckErr::Refused { .. } => 1,
         CheckErr::Bound { .. } => 5,
         CheckErr::Limit { .. } => 5,
-        CheckErr::Memory => 1,
+        CheckErr::Memory => unreachable!(),
     }
 }
 
@@ -105,8 +108,8 @@ pub fn status(refusal: &Refusal) -> u8
     match refusal {
         Refusal::NoFile { fault } => rast_load::status(*fault),
         Refusal::NotYet { .. } => 1,
-        Refusal::Names { why } => name_status(why),
-        Refusal::Rules { why, .. } => check_status(why),
+        Refusal::Names { fault } => name_status(fault),
+        Refusal::Rules { fault, .. } => check_status(&fault.why),
     }
 }
 
@@ -120,16 +123,15 @@ fn named(alloc: Global, words: &[u8], name: &Name) -> Result<Vec<u8>, AllocError
     Ok(line)
 }
 
-fn name_line(alloc: Global, why: &NameErr) -> Result<Vec<u8>, AllocError>
-    ensures { IfOk result (λ line. line.items ≡ name_line why.now) }
+fn name_line(alloc: Global, fault: &NameFault) -> Result<Vec<u8>, AllocError>
+    ensures { IfOk result (λ line. line.items ≡ name_line fault.now) }
 {
-    match why {
-        NameErr::Unknown { name } => named(alloc, b"refused: unknown ", name),
-        NameErr::Twice { name } => named(alloc, b"refused: twice ", name),
-        NameErr::Arity { name } => named(alloc, b"refused: arity ", name),
-        NameErr::BadMain { name } => named(alloc, b"refused: main ", name),
-        NameErr::Limit { name } => named(alloc, b"bound: limit in ", name),
-        NameErr::Memory => Ok(Vec::new(alloc)),
+    match fault {
+        NameFault::Unknown { name } => named(alloc, b"refused: unknown ", name),
+        NameFault::Twice { name } => named(alloc, b"refused: twice ", name),
+        NameFault::Arity { name } => named(alloc, b"refused: arity ", name),
+        NameFault::BadMain { name } => named(alloc, b"refused: main ", name),
+        NameFault::Limit { name } => named(alloc, b"bound: limit in ", name),
     }
 }
 
@@ -148,7 +150,7 @@ pub fn line(alloc: Global, refusal: &Refusal) -> Result<Vec<u8>, AllocError>
     match refusal {
         Refusal::NoFile { fault } => rast_load::line(alloc, *fault),
         Refusal::NotYet { at } => not_yet(alloc, *at),
-        Refusal::Names { why } => name_line(alloc, why),
-        Refusal::Rules { program, why } => rast_lines::line(alloc, program, why),
+        Refusal::Names { fault } => name_line(alloc, fault),
+        Refusal::Rules { program, fault } => rast_lines::line(alloc, program, &fault.why),
     }
 }

@@ -1,27 +1,19 @@
 -- The answer of a check.
-use Rattle.std.proofs.Common.{◌≡◌, Bool, true, false, if◌then◌else◌, List, ◌++◌, Some, Result, Ok, Err, refl, sym, ap, ◌∙◌}
+use Rattle.std.proofs.Common.{◌≡◌, List, ◌++◌, Result, Ok, Err, refl}
 use Rattle.std.specs.Result.{IsErrAnd}
 use Rattle.rast_rules.specs.Rules.{Program}
-use Rattle.rast_types.specs.declared.stop.Stop.TheVariants as stop
 use Rattle.rast_check.specs.Answer.{IsAnswer}
-use Rattle.rast_check.specs.Decided.{searched}
-use Rattle.rast_check.specs.Formed.{IsFormed, answer, is_formed}
-use Rattle.rast_check.specs.Questions.{Question, IsTrueQuestion, TypeBound, questions, type_questions, decl_questions, equation_questions, body_questions, check_answer}
+use Rattle.rast_check.specs.Formed.{IsFormed}
+use Rattle.rast_check.specs.Questions.{Question, IsTrueQuestion, questions, type_questions, decl_questions, equation_questions, body_questions}
 use Rattle.rast_check.specs.Refusals.{Asked, Clears, IsRefusal}
 use Rattle.rast_check.specs.declared.answer.CheckErr.{CheckErr}
 use Rattle.std.proofs.lemmas.List.Elements.{recursion_from_All}
 use Rattle.rast_check.proofs.Laws.{accepted}
-use Rattle.rast_check.proofs.Leads.{Leads, error_of, leads_start, leads_step, asked_last, asked_stop, refusal_is}
+use Rattle.rast_check.proofs.Leads.{Leads, error_of, leads_start, leads_step, asked_last, asked_stop}
 
-answer_formed : (g : Program) → is_formed g ≡ true → answer searched g ≡ check_answer searched g
-answer_formed g h = ap (λ (b : Bool). if b then check_answer searched g else Some (TypeBound 0 stop.Variables)) h
-
-pub answered : {X : Type 0} (g : Program) (t : Bool) (r : Result X CheckErr) → t ≡ is_formed g → t ≡ true → IsFormed g → Asked g (questions g) r → IsAnswer g r
-answered {X} g t (Ok x) e h f a = (answer_formed g (sym e ∙ h) ∙ a.0, accepted g f.forward (recursion_from_All (IsTrueQuestion g) (questions g) a.1))
-answered {X} g t (Err why) e h f a = refusal_is _ _ why (sym (answer_formed g (sym e ∙ h))) a
-
-pub unformed : (g : Program) (t : Bool) → t ≡ is_formed g → t ≡ false → answer searched g ≡ Some (TypeBound 0 stop.Variables)
-unformed g t e h = ap (λ (b : Bool). if b then check_answer searched g else Some (TypeBound 0 stop.Variables)) (sym e ∙ h)
+pub answered : {X : Type 0} (g : Program) (r : Result X CheckErr) → IsFormed g → Asked g (questions g) r → IsAnswer g r
+answered {X} g (Ok x) f a = (a.0, accepted g f.forward (recursion_from_All (IsTrueQuestion g) (questions g) a.1))
+answered {X} g (Err why) f a = a
 
 -- ---- one part after the other
 

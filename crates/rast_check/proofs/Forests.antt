@@ -1,19 +1,13 @@
 -- A well made program is a forest: a node that had two places would be counted twice.
-use Rattle.std.proofs.Common.{arith, ◌≡◌, ◌∙◌, ℕ, zero, suc, ◌+◌, ◌<◌, ◌≤◌, Bool, true, false, cond, ◌&&◌, if◌then◌else◌, List, [], ◌∷◌, length, Some, None, refl, sym, ap, subst, flat_map}
+use Rattle.std.proofs.Common.{arith, ◌≡◌, ◌∙◌, ℕ, zero, suc, ◌+◌, ◌<◌, ◌≤◌, cond, List, [], ◌∷◌, length, Some, None, refl, sym, ap, subst, flat_map}
 use Rattle.std.specs.Prelude.{◌==◌, slice_get, sum_by}
 use Rattle.std.proofs.lemmas.Bool.Decides.{nat_tests}
 use Rattle.std.proofs.lemmas.List.Sums.{sum_by-append, sum_by-cons}
-use Rattle.rast_cooper.proofs.Closed.{and_true}
-use Rattle.rast_made.specs.Made.{is_well_made}
 use Rattle.rast_made.specs.WellMade.{IsWellMade, IsMadeDecl}
-use Rattle.rast_made.proofs.Making.{well_made_is}
-use Rattle.rast_types.specs.declared.stop.Stop.TheVariants as stop
 use Rattle.rast_terms.specs.Nodes.{kids}
 use Rattle.rast_terms.specs.declared.node.Node.{Node}
 use Rattle.rast_rules.specs.Plan.{IsBody, IsKid, IsForest}
 use Rattle.rast_rules.specs.Rules.{Program, Decl}
-use Rattle.rast_check.specs.Formed.{answer, is_counted, is_formed, is_scoped}
-use Rattle.rast_check.specs.Questions.{Decision, TypeBound, check_answer}
 use Rattle.rast_equal.proofs.Every.{all_get}
 
 some_same : {X : Type 0} (x y : X) → Some x ≡ Some y → x ≡ y
@@ -107,19 +101,3 @@ module _ (g : Program) (w : IsWellMade g) where
     kids = two_kids;
     apart = body_and_kid;
   }
-
--- ---- what was asked of a program that is not refused
-
-formed_clear : (v : Decision) (g : Program) (b : Bool) → is_formed g ≡ b → answer v g ≡ None → b ≡ true
-formed_clear v g true h e = refl
-formed_clear v g false h e =
-    let stopped : answer v g ≡ Some (TypeBound 0 stop.Variables) = ap (λ (b : Bool). if b then check_answer v g else Some (TypeBound 0 stop.Variables)) h in
-    absurd (none_some (TypeBound 0 stop.Variables) (sym e ∙ stopped))
-
-pub made_clear : (v : Decision) (g : Program) → answer v g ≡ None → IsWellMade g
-made_clear v g e =
-    let a = and_true (is_counted g) (is_scoped g && is_well_made g) (formed_clear v g (is_formed g) refl e) in
-    well_made_is g (and_true (is_scoped g) (is_well_made g) a.1).1
-
-pub forest_clear : (v : Decision) (g : Program) → answer v g ≡ None → IsForest g
-forest_clear v g e = forest_is g (made_clear v g e)

@@ -25,7 +25,7 @@ use Rattle.rast_types.specs.declared.stop.Stop.{Stop}
 use Rattle.rast_types.specs.declared.stop.Stop.TheVariants as stop
 use Rattle.rast_check.specs.Decided.{as_verdict, searched}
 use Rattle.rast_check.specs.Formed.{IsFormed}
-use Rattle.rast_check.specs.Questions.{unless, Question, OfType, OfDecl, OfEquation, OfLimit, OfPremise, IsTrueQuestion, Refusal, BadType, TypeBound, BadDecl, DeclBound, BadEquation, Refused, StopsAt, are_compared, claim_error, first_error, in_scope, is_asked, is_bound, is_placed, is_scope, point_error, premise_error, questions, refusal, walk_error, check_answer}
+use Rattle.rast_check.specs.Questions.{unless, Question, OfType, OfDecl, OfEquation, OfLimit, OfPremise, IsTrueQuestion, Refusal, BadType, TypeBound, BadDecl, DeclBound, BadEquation, Refused, StopsAt, are_compared, claim_error, first_error, in_scope, is_asked, is_bound, is_placed, is_scope, point_error, premise_error, questions, refusal, walk_error, answer}
 use Rattle.rast_check.specs.Refusals.{Asked, IsDeclRefusal, IsEquationRefusal, IsRefusal, IsTypeRefusal}
 use Rattle.rast_check.specs.Shown.{Refutes, RefutesSame, RefutesType}
 use Rattle.rast_check.specs.declared.answer.CheckErr.{CheckErr}
@@ -112,22 +112,22 @@ question_bound g (OfLimit n s) r i t h = absurd t
 question_bound g (OfPremise n k j p) r i t h = premise_bound g n k j p r t h
 
 -- a refusal that is no bound is of a program that isn't accepted
-shown_refuses : (g : Program) (r : Refusal) → IsFormed g → check_answer searched g ≡ Some r → is_bound r ≡ false → IsAccepted g → ⊥
+shown_refuses : (g : Program) (r : Refusal) → IsFormed g → answer searched g ≡ Some r → is_bound r ≡ false → IsAccepted g → ⊥
 shown_refuses g r f h s a =
     true≢false (sym (first_some (refusal searched g) (λ q. Placed q × IsTrueQuestion g q) IsBound r (λ q t e. question_bound g q r t.0 t.1 e) (questions g)
     (both_every Placed (IsTrueQuestion g) (questions g) (all_placed g f) (all_true g a)) h) ∙ s)
 
-type_refutes : (g : Program) (e : TypeErr) → IsFormed g → IsTypeRefusal (check_answer searched g) e → RefutesType g e
+type_refutes : (g : Program) (e : TypeErr) → IsFormed g → IsTypeRefusal (answer searched g) e → RefutesType g e
 type_refutes g (type.Invalid d rule n vs) f h = λ a. shown_refuses g (BadType d rule n vs) f h refl a
 type_refutes g (type.Bound d s) f h = tt
 type_refutes g type.Memory f h = tt
 
-decl_refutes : (g : Program) (k : ℕ) (e : TypeErr) → IsFormed g → IsDeclRefusal (check_answer searched g) k e → RefutesType g e
+decl_refutes : (g : Program) (k : ℕ) (e : TypeErr) → IsFormed g → IsDeclRefusal (answer searched g) k e → RefutesType g e
 decl_refutes g k (type.Invalid d rule n vs) f h = λ a. shown_refuses g (BadDecl k d rule n vs) f h refl a
 decl_refutes g k (type.Bound d s) f h = tt
 decl_refutes g k type.Memory f h = tt
 
-equation_refutes : (g : Program) (n k : ℕ) (e : SameErr) → IsFormed g → IsEquationRefusal (check_answer searched g) n k e → RefutesSame g e
+equation_refutes : (g : Program) (n k : ℕ) (e : SameErr) → IsFormed g → IsEquationRefusal (answer searched g) n k e → RefutesSame g e
 equation_refutes g n k (same.Fails path vars vs) f h = λ a. shown_refuses g (BadEquation n k (same.Fails path vars vs)) f h refl a
 equation_refutes g n k (same.Wanted path) f h = λ a. shown_refuses g (BadEquation n k (same.Wanted path)) f h refl a
 equation_refutes g n k same.Left f h = λ a. shown_refuses g (BadEquation n k same.Left) f h refl a
@@ -135,7 +135,7 @@ equation_refutes g n k (same.Bound s) f h = tt
 equation_refutes g n k same.Memory f h = tt
 
 -- what is refused, and isn't only undecided or over a limit, is of a program that isn't accepted
-refutes : (g : Program) (e : CheckErr) → IsFormed g → IsRefusal (check_answer searched g) e → Refutes g e
+refutes : (g : Program) (e : CheckErr) → IsFormed g → IsRefusal (answer searched g) e → Refutes g e
 refutes g (err.BadType e) f h = type_refutes g e f h
 refutes g (err.BadDecl k e) f h = decl_refutes g k e f h
 refutes g (err.BadEquation e) f h = equation_refutes g e.number e.premise e.why f h

@@ -1,5 +1,5 @@
 -- The calls of a walk over the nodes.
-use Rattle.std.proofs.Common.{arith, ◌≡◌, ℕ, suc, ◌+◌, ◌-◌, List, [], ◌∷◌, ◌++◌, map, zip, length, slice_get, reverse, false, Some, Result, Ok, Err, sym, ap, ap₂, ◌∙◌, subst, All, length-append}
+use Rattle.std.proofs.Common.{arith, ◌≡◌, ◌<◌, ◌≤◌, ℕ, suc, ◌+◌, ◌-◌, List, [], ◌∷◌, ◌++◌, map, zip, length, slice_get, reverse, false, Some, Result, Ok, Err, sym, ap, ◌∙◌, subst, All, length-append}
 use Rattle.std.specs.Result.{IsErrAnd}
 use Rattle.rast_rules.specs.Rules.{Program, premises, children}
 use Rattle.rast_rules.specs.Trail.{any_stops}
@@ -22,22 +22,24 @@ use Rattle.rast_check.proofs.Walking.{left_last, node_brings, node_refused, node
 -- ---- children that are pushed
 
 pub record IsPushed (d : ℕ) (stack goal : List Waiting) (ks : List ℕ) (rs : List (Result Judgement Stop)) : Type 0 where
-  pub same : length ks ≡ length rs
+  pub few : length rs ≤ length ks
   pub left : stack ++ reverse (map (waits d) (zip ks rs)) ≡ goal
 
-one_shorter : {X Y : Type 0} (xs : List X) (ys : List Y) (x : X) (y : Y) → length (xs ++ x ∷ []) ≡ length (ys ++ y ∷ []) → length xs ≡ length ys
-one_shorter {X} {Y} xs ys x y h = let a = length-append xs (x ∷ []) in let b = length-append ys (y ∷ []) in omega (arith, a, b, h)
+one_longer : {X : Type 0} (xs ys : List X) (y : X) → xs ≡ ys ++ y ∷ [] → length xs ≡ length ys + 1
+one_longer {X} xs ys y e = let a = length-append ys (y ∷ []) in let b = ap (λ (zs : List X). length zs) e in omega (arith, a, b)
 
-pub push_step : (d : ℕ) (stack more goal : List Waiting) (ks less : List ℕ) (rs fewer : List (Result Judgement Stop)) (k : ℕ) (r : Result Judgement Stop) →
-    length ks ≡ length rs → stack ++ reverse (map (waits d) (zip ks rs)) ≡ goal → ks ≡ less ++ k ∷ [] → rs ≡ fewer ++ r ∷ [] → more ≡ stack ++ waits d (k, r) ∷ [] → IsPushed d more goal less fewer
-push_step d stack more goal ks less rs fewer k r same is e f m =
-    let both : length (less ++ k ∷ []) ≡ length (fewer ++ r ∷ []) = sym (ap (λ (xs : List ℕ). length xs) e) ∙ same ∙ ap (λ (xs : List (Result Judgement Stop)). length xs) f in
-    let shorter = one_shorter less fewer k r both in
+-- there is a child where one is taken
+pub kid_there : (ks : List ℕ) (rs fewer : List (Result Judgement Stop)) (r : Result Judgement Stop) → length rs ≤ length ks → rs ≡ fewer ++ r ∷ [] → length fewer < length ks
+kid_there ks rs fewer r h e = let a = one_longer rs fewer r e in omega (arith, a, h)
+
+pub push_step : (d : ℕ) (stack more goal : List Waiting) (ks : List ℕ) (rs fewer : List (Result Judgement Stop)) (k : ℕ) (r : Result Judgement Stop) →
+    length rs ≤ length ks → stack ++ reverse (map (waits d) (zip ks rs)) ≡ goal → slice_get ks (length fewer) ≡ Some k → rs ≡ fewer ++ r ∷ [] → more ≡ stack ++ waits d (k, r) ∷ [] → IsPushed d more goal ks fewer
+push_step d stack more goal ks rs fewer k r few is e f m =
     record {
-      same = shorter;
-      left = ap (λ (ws : List Waiting). ws ++ reverse (map (waits d) (zip less fewer))) m
-          ∙ sym (pushed d stack less fewer k r shorter)
-          ∙ ap₂ (λ (xs : List ℕ) (ys : List (Result Judgement Stop)). stack ++ reverse (map (waits d) (zip xs ys))) (sym e) (sym f)
+      few = (let a = kid_there ks rs fewer r few f in omega (arith, a));
+      left = ap (λ (ws : List Waiting). ws ++ reverse (map (waits d) (zip ks fewer))) m
+          ∙ sym (pushed d stack ks fewer k r e)
+          ∙ ap (λ (ys : List (Result Judgement Stop)). stack ++ reverse (map (waits d) (zip ks ys))) (sym f)
           ∙ is;
     }
 
@@ -75,17 +77,15 @@ found_goes g n d j ps f c nd h =
     subst (λ (x : Node). any_stops (premises g j x) ≡ false) (some_inside f.node nd (sym f.at ∙ h))
     (true_premises_go g n j (premises g j f.node) (found_clear g n d j ps f c))
 
-pub found_sized : (g : Program) (n d : ℕ) (j : Judgement) (ps : List (ℕ × Premise)) (ks : List ℕ) (rs : List (Result Judgement Stop)) → IsFound g n d j ps →
-    ((nd : Node) → slice_get g.nodes n ≡ Some nd → ks ≡ kids nd) → ((nd : Node) → slice_get g.nodes n ≡ Some nd → rs ≡ children g j nd) → length ks ≡ length rs
-found_sized g n d j ps ks rs f a b =
-    ap (λ (xs : List ℕ). length xs) (a f.node f.at) ∙ sym (one_each g j f.node) ∙ sym (ap (λ (xs : List (Result Judgement Stop)). length xs) (b f.node f.at))
+pub sized : (g : Program) (n : ℕ) (j : Judgement) (rs : List (Result Judgement Stop)) → ((nd : Node) → slice_get g.nodes n ≡ Some nd → rs ≡ children g j nd) → (nd : Node) → slice_get g.nodes n ≡ Some nd → length (kids nd) ≡ length rs
+sized g n j rs b nd e = sym (one_each g j nd) ∙ sym (ap (λ (xs : List (Result Judgement Stop)). length xs) (b nd e))
 
-pub found_brings : (g : Program) (n d : ℕ) (j : Judgement) (ps : List (ℕ × Premise)) (ks : List ℕ) (rs : List (Result Judgement Stop)) (before after : List Waiting) → IsForward g → IsPlaced g (waits d (n, Ok j)) → All (IsPlaced g) before →
-    IsFound g n d j ps → Clears g (asked_at n j ps) → ((nd : Node) → slice_get g.nodes n ≡ Some nd → ks ≡ kids nd) → ((nd : Node) → slice_get g.nodes n ≡ Some nd → rs ≡ children g j nd) →
-    after ≡ before ++ reverse (map (waits (d + 1)) (zip ks rs)) → Brings g (before ++ waits d (n, Ok j) ∷ []) after
-found_brings g n d j ps ks rs before after w p others f c a b is =
+pub found_brings : (g : Program) (n d : ℕ) (j : Judgement) (ps : List (ℕ × Premise)) (rs : List (Result Judgement Stop)) (before after : List Waiting) → IsForward g → IsPlaced g (waits d (n, Ok j)) → All (IsPlaced g) before →
+    IsFound g n d j ps → Clears g (asked_at n j ps) → ((nd : Node) → slice_get g.nodes n ≡ Some nd → rs ≡ children g j nd) →
+    ((nd : Node) → slice_get g.nodes n ≡ Some nd → after ≡ before ++ reverse (map (waits (d + 1)) (zip (kids nd) rs))) → Brings g (before ++ waits d (n, Ok j) ∷ []) after
+found_brings g n d j ps rs before after w p others f c b is =
     node_brings g n d j f.node before after w p others f.at (found_clear g n d j ps f c)
-    (is ∙ ap₂ (λ (xs : List ℕ) (ys : List (Result Judgement Stop)). before ++ reverse (map (waits (d + 1)) (zip xs ys))) (a f.node f.at) (b f.node f.at))
+    (is f.node f.at ∙ ap (λ (ys : List (Result Judgement Stop)). before ++ reverse (map (waits (d + 1)) (zip (kids f.node) ys))) (b f.node f.at))
 
 -- ---- a node whose judgement passes a limit
 

@@ -1,5 +1,5 @@
 -- A visit of a node brings what is asked of it, and its children wait in its place.
-use Rattle.std.proofs.Common.{arith, ◌≡◌, ℕ, zero, suc, ◌+◌, ◌-◌, ◌<◌, ◌≤◌, List, [], ◌∷◌, ◌++◌, map, flat_map, zip, length, slice_get, reverse, Bool, true, false, not, Some, Result, Ok, refl, sym, ap, ap₂, ◌∙◌, subst, All, append_assoc, append-nil}
+use Rattle.std.proofs.Common.{arith, ◌≡◌, ℕ, zero, suc, ◌+◌, ◌-◌, ◌<◌, ◌≤◌, List, [], ◌∷◌, ◌++◌, map, flat_map, zip, length, slice_get, reverse, Bool, true, false, not, Some, None, Result, Ok, refl, sym, ap, ap₂, ◌∙◌, subst, All, append_assoc, append-nil}
 use Rattle.std.specs.List.{sum_by, AllByRecursion}
 use Rattle.std.proofs.lemmas.List.{reverse-append}
 use Rattle.std.proofs.lemmas.List.Sums.{sum_by-append, sum_by-cons}
@@ -23,23 +23,36 @@ use Rattle.rast_check.proofs.Leads.{error_of, error_here, refusal_is}
 
 -- ---- lists
 
-pub zip_push : {X Y : Type 0} (xs : List X) (ys : List Y) (x : X) (y : Y) → length xs ≡ length ys → zip (xs ++ x ∷ []) (ys ++ y ∷ []) ≡ zip xs ys ++ (x, y) ∷ []
-zip_push {X} {Y} [] [] x y h = refl
-zip_push {X} {Y} [] (b ∷ ys) x y h = absurd (let k : zero ≡ suc (length ys) = h in omega arith)
-zip_push {X} {Y} (a ∷ xs) [] x y h = absurd (let k : suc (length xs) ≡ zero = h in omega arith)
-zip_push {X} {Y} (a ∷ xs) (b ∷ ys) x y h = ap (λ zs. (a, b) ∷ zs) (zip_push xs ys x y (let k : suc (length xs) ≡ suc (length ys) = h in omega arith))
+zip_none : {X Y : Type 0} (xs : List X) → zip {X = Y} xs [] ≡ []
+zip_none {X} {Y} [] = refl
+zip_none {X} {Y} (x ∷ xs) = refl
+
+zip_first : {X Y : Type 0} (xs : List X) (a x : X) (y : Y) → a ≡ x → zip (a ∷ xs) (y ∷ []) ≡ (x, y) ∷ []
+zip_first {X} {Y} xs a x y e = ap₂ (λ (z : X) (zs : List (X × Y)). (z, y) ∷ zs) e (zip_none xs)
+
+zip_last : {X Y : Type 0} (xs : List X) (ys : List Y) (x : X) (y : Y) → slice_get xs (length ys) ≡ Some x → zip xs (ys ++ y ∷ []) ≡ zip xs ys ++ (x, y) ∷ []
+zip_last {X} {Y} [] ys x y h = absurd (let k : None ≡ Some x = h in cc)
+zip_last {X} {Y} (a ∷ xs) [] x y h = zip_first xs a x y (let k : Some a ≡ Some x = h in cc)
+zip_last {X} {Y} (a ∷ xs) (b ∷ ys) x y h = ap (λ zs. (a, b) ∷ zs) (zip_last xs ys x y h)
 
 map_push : {X Y : Type 0} (f : X → Y) (xs : List X) (x : X) → map f (xs ++ x ∷ []) ≡ map f xs ++ f x ∷ []
 map_push {X} {Y} f [] x = refl
 map_push {X} {Y} f (y ∷ xs) x = ap (λ ys. f y ∷ ys) (map_push f xs x)
 
 -- the last of those that are pushed is pushed first
-pub pushed : (d : ℕ) (before : List Waiting) (ks : List ℕ) (rs : List (Result Judgement Stop)) (k : ℕ) (r : Result Judgement Stop) → length ks ≡ length rs →
-    before ++ reverse (map (waits d) (zip (ks ++ k ∷ []) (rs ++ r ∷ []))) ≡ (before ++ waits d (k, r) ∷ []) ++ reverse (map (waits d) (zip ks rs))
+pub pushed : (d : ℕ) (before : List Waiting) (ks : List ℕ) (rs : List (Result Judgement Stop)) (k : ℕ) (r : Result Judgement Stop) → slice_get ks (length rs) ≡ Some k →
+    before ++ reverse (map (waits d) (zip ks (rs ++ r ∷ []))) ≡ (before ++ waits d (k, r) ∷ []) ++ reverse (map (waits d) (zip ks rs))
 pushed d before ks rs k r h =
-    ap (λ (ws : List Waiting). before ++ reverse ws) (ap (map (waits d)) (zip_push ks rs k r h) ∙ map_push (waits d) (zip ks rs) (k, r))
+    ap (λ (ws : List Waiting). before ++ reverse ws) (ap (map (waits d)) (zip_last ks rs k r h) ∙ map_push (waits d) (zip ks rs) (k, r))
     ∙ ap (λ (ws : List Waiting). before ++ ws) (reverse-append (map (waits d) (zip ks rs)) (waits d (k, r) ∷ []))
     ∙ sym (append_assoc before (waits d (k, r) ∷ []) (reverse (map (waits d) (zip ks rs))))
+
+-- none is left
+pub drained : (d : ℕ) (before : List Waiting) (ks : List ℕ) (rs : List (Result Judgement Stop)) → rs ≡ [] → before ++ reverse (map (waits d) (zip ks rs)) ≡ before
+drained d before ks rs e =
+    ap (λ (xs : List (Result Judgement Stop)). before ++ reverse (map (waits d) (zip ks xs))) e
+    ∙ ap (λ (es : List (ℕ × Result Judgement Stop)). before ++ reverse (map (waits d) es)) (zip_none ks)
+    ∙ append-nil before
 
 -- ---- what is asked of all that wait
 

@@ -2,7 +2,7 @@
 use Rattle.std.specs.Prelude.{◌≡◌, None, Result, Ok, Err}
 use Rattle.rast_rules.specs.Rules.{Program, IsAccepted}
 use Rattle.rast_check.specs.Decided.{searched}
-use Rattle.rast_check.specs.Formed.{answer}
+use Rattle.rast_check.specs.Questions.{answer}
 use Rattle.rast_check.specs.Refusals.{IsRefusal}
 use Rattle.rast_check.specs.declared.answer.CheckErr.{CheckErr}
 

@@ -1,5 +1,5 @@
 -- Programs that are well made, in which at most 16 variables are in scope, and of which the numbers are counted.
-use Rattle.std.specs.Prelude.{◌≡◌, ◌≤◌, ◌<◌, All, ◌+◌, ◌^◌, Bool, ◌&&◌, nat_le, nat_lt, if◌then◌else◌, true, length, Option, Some}
+use Rattle.std.specs.Prelude.{◌≡◌, ◌≤◌, ◌<◌, All, ◌+◌, ◌^◌, Bool, ◌&&◌, nat_le, nat_lt, true, length}
 use Rattle.std.specs.List.{list_all}
 use Rattle.rast_index.specs.Linear.{is_closed}
 use Rattle.rast_cooper.specs.Verdicts.{is_within}
@@ -9,9 +9,8 @@ use Rattle.rast_made.specs.WellMade.{IsWellMade}
 use Rattle.rast_rules.specs.Plan.{IsForest}
 use Rattle.rast_rules.specs.Rules.{Program, Decl, defs}
 use Rattle.rast_types.specs.declared.equation.Equation.{Equation}
-use Rattle.rast_types.specs.declared.stop.Stop.TheVariants as stop
 use Rattle.rast_types.specs.declared.table.TypeDef.{TypeDef}
-use Rattle.rast_check.specs.Questions.{Decision, Refusal, TypeBound, IsForward, check_answer}
+use Rattle.rast_check.specs.Questions.{IsForward}
 
 abbrev pub is_fit_def : TypeDef → Bool
 is_fit_def d = nat_le d.params 16 && is_within_type d.params d.body
@@ -29,7 +28,7 @@ is_counted g = nat_lt (length (defs g)) (2 ^ 32) && (nat_lt (length g.decls) (2 
 abbrev pub is_scoped : Program → Bool
 is_scoped g = list_all is_fit_def (defs g) && (list_all is_fit_decl g.decls && list_all is_fit_equation g.equations)
 
--- what each program is that is made from a text
+-- what each program is that a text says
 abbrev pub is_formed : Program → Bool
 is_formed g = is_counted g && (is_scoped g && is_well_made g)
 
@@ -56,7 +55,3 @@ pub record IsFormed (g : Program) : Type 0 where
   pub made : IsWellMade g
   pub forward : IsForward g
   pub forest : IsForest g
-
--- the answer of a check; another program stops before anything is asked
-abbrev pub answer : Decision → Program → Option Refusal
-answer v g = if is_formed g then check_answer v g else Some (TypeBound 0 stop.Variables)

@@ -162,8 +162,8 @@ are_compared n ps a b = is_scope n ps && (is_within_type n a && is_within_type n
 
 -- what is asked in a scope that isn't as it has to be stops there
 abbrev pub in_scope : ℕ → ℕ → Bool → Option Refusal → Option Refusal
-in_scope n k true answer = answer
-in_scope n k false answer = Some (StopsAt n k stop.Variables)
+in_scope n k true o = o
+in_scope n k false o = Some (StopsAt n k stop.Variables)
 
 abbrev pub truth_error : Decision → Judgement → Formula → ℕ → ℕ → Option Refusal
 truth_error v j goal n k = in_scope n k (is_asked j.ctx.vars j.ctx.premises goal) (unless (v j.ctx.vars j.ctx.premises goal) (λ vs. Refused n k (why.Fails j.ctx.vars vs)) (StopsAt n k))
@@ -205,8 +205,8 @@ refusal v g (OfLimit n s) = Some (Limit n s)
 refusal v g (OfPremise n k j p) = premise_error v g n k j p
 
 -- the answer of a check: the first place that is false, undecided or over a limit
-abbrev pub check_answer : Decision → Program → Option Refusal
-check_answer v g = first_error (refusal v g) (questions g)
+abbrev pub answer : Decision → Program → Option Refusal
+answer v g = first_error (refusal v g) (questions g)
 
 -- ---- which programs are asked
 

@@ -8,7 +8,6 @@ mod decision;
 mod decls;
 mod equations;
 mod formed;
-mod kids;
 mod node;
 mod premise;
 mod scope;
@@ -17,3 +16,4 @@ mod walk;
 
 pub use answer::CheckErr;
 pub use checked::{Checked, check};
+pub use formed::is_formed;

@@ -78,7 +78,7 @@ fn check_truth(alloc: Global, memo: &mut Memo, at: &Judgement, goal: &Formula) -
 {
     let vars = at.ctx.vars;
     let premises = at.ctx.premises.as_slice();
-    if !is_asked(alloc, vars, premises, goal)? {
+    if !is_asked(vars, premises, goal) {
         return Err(Why::Stopped(Stop::Variables));
     }
     match decide_once(alloc, memo, vars, premises, goal)? {
@@ -144,7 +144,7 @@ fn check_same(
     ensures { Answered (types_error searched program.now at.now types.entry.0.now types.entry.1.now refs.now) (IsSame program.now.equations at.now.ctx.vars at.now.ctx.premises types.entry.0.now types.entry.1.now refs.now) result }
 {
     let (a, b) = types;
-    if !are_compared(alloc, at.ctx.vars, at.ctx.premises.as_slice(), a, b)? {
+    if !are_compared(at.ctx.vars, at.ctx.premises.as_slice(), a, b) {
         return Err(Why::Stopped(Stop::Variables));
     }
     match same(alloc, program.equations.as_slice(), &at.ctx, a, b, refs) {

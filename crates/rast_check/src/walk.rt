@@ -1,5 +1,5 @@
 // The nodes below a declaration, checked.
-ghost use Rattle.std.specs.Prelude.{◌≡◌, ◌<◌, ◌++◌, ◌∷◌, [], Ok, Some, All, OnOk, IfOk, length, slice_get, reverse, map, zip};
+ghost use Rattle.std.specs.Prelude.{◌≡◌, ◌<◌, ◌++◌, Ok, Some, All, OnOk, length, slice_get, reverse, map, zip};
 ghost use Rattle.rast_equal.specs.Fit.{IsFitEquation};
 ghost use Rattle.rast_terms.specs.Nodes as nodes;
 ghost use Rattle.rast_terms.specs.declared.node.Node.{Node};
@@ -8,11 +8,10 @@ ghost use Rattle.rast_check.specs.Refusals.{Asked};
 ghost use Rattle.rast_check.specs.Walk.{IsPlaced, Visits, waiting_questions, waits};
 
 use crate::answer::CheckErr;
-use crate::kids::kids;
 use crate::node::check_premises;
 use rast_memo::Memo;
 use rast_rules::{Judgement, children, premises};
-use rast_terms::Program;
+use rast_terms::{Node, Program};
 use rast_types::Stop;
 use sqlite_items::Items;
 use std::alloc::{AllocError, Global};
@@ -90,41 +89,48 @@ fn visit_node(
     let found = premises(alloc, program, at, node)?;
     check_premises(alloc, memo, program, node, at, found.as_slice())?;
     let below = children(alloc, program, at, node)?;
-    let kids = kids_of(alloc, program, node)?;
-    push_all(kids, below, depth + 1, stack)?;
+    push_below(program, node, below, depth + 1, stack)?;
     Ok(())
 }
 
-fn kids_of(alloc: Global, program: &Program, node: u32) -> Result<Items<u32>, AllocError>
-    requires { node < length program.now.nodes }
-    ensures { (n : Node) → slice_get program.now.nodes node ≡ Some n → IfOk result (λ ks. ks ≡ nodes.kids n) }
-{
-    match program.nodes.get(node as usize) {
-        Some(found) => kids(alloc, found),
-        None => Err(AllocError),
-    }
-}
-
-// Nodes with their judgements, of which the first is to come first.
-fn push_all(
-    kids: Items<u32>,
+// The children of a node with their judgements.
+fn push_below(
+    program: &Program,
+    node: u32,
     below: Items<Result<Judgement, Stop>>,
     depth: usize,
     stack: &mut Items<Waiting>,
 ) -> Result<(), AllocError>
-    requires { length kids ≡ length below }
-    ensures { OnOk result (stack.new ≡ stack.old ++ reverse (map (waits depth) (zip kids below))) }
+    requires there { node < length program.now.nodes }
+    requires same { (n : Node) → slice_get program.now.nodes node ≡ Some n → length (nodes.kids n) ≡ length below }
+    ensures { (n : Node) → slice_get program.now.nodes node ≡ Some n → OnOk result (stack.new ≡ stack.old ++ reverse (map (waits depth) (zip (nodes.kids n) below))) }
 {
-    let mut kids = kids;
+    match program.nodes.get(node as usize) {
+        Some(parent) => push_all(parent, below, depth, stack),
+        None => {
+            drop(below);
+            Err(AllocError)
+        }
+    }
+}
+
+// The children of a node with their judgements, of which the first is to come first.
+fn push_all(
+    parent: &Node,
+    below: Items<Result<Judgement, Stop>>,
+    depth: usize,
+    stack: &mut Items<Waiting>,
+) -> Result<(), AllocError>
+    requires { length (nodes.kids parent.now) ≡ length below }
+    ensures { OnOk result (stack.new ≡ stack.old ++ reverse (map (waits depth) (zip (nodes.kids parent.now) below))) }
+{
     let mut below = below;
     while let Some(judgement) = below.pop() {
-        if let Some(node) = kids.pop() {
-            stack.push(Waiting {
-                node,
-                depth,
-                judgement,
-            })?;
-        }
+        stack.push(Waiting {
+            node: parent.kid(below.len()),
+            depth,
+            judgement,
+        })?;
     }
     Ok(())
 }

@@ -12,10 +12,10 @@ use Rattle.rast_equal.specs.declared.answer.SameErr.{SameErr}
 use Rattle.rast_equal.specs.declared.answer.SameErr.TheVariants as same
 use Rattle.rast_equal.specs.declared.validity.TypeErr.{TypeErr}
 use Rattle.rast_equal.specs.declared.validity.TypeErr.TheVariants as type
-use Rattle.rast_resolve.specs.declared.fault.NameErr.{NameErr}
-use Rattle.rast_resolve.specs.declared.fault.NameErr.TheVariants as name
 use Rattle.rast_check.specs.declared.answer.CheckErr.{CheckErr}
 use Rattle.rast_check.specs.declared.answer.CheckErr.TheVariants as check
+use Rattle.rast_accept.specs.declared.fault.NameFault.{NameFault}
+use Rattle.rast_accept.specs.declared.fault.NameFault.TheVariants as name
 use Rattle.rast_accept.specs.declared.refusal.Refusal.{Refusal}
 use Rattle.rast_accept.specs.declared.refusal.Refusal.TheVariants as refusal
 use Rattle.rast_accept.specs.Lines.{name_status, same_status, type_status, check_status, refusal_status}
@@ -37,13 +37,12 @@ fault_codes (fault.LongName at) = inl refl
 fault_codes (fault.Syntax at) = inl refl
 fault_codes (fault.TooDeep at) = inr refl
 
-name_codes : (e : NameErr) → IsRefusalCode (name_status e)
+name_codes : (e : NameFault) → IsRefusalCode (name_status e)
 name_codes (name.Unknown n) = inl refl
 name_codes (name.Twice n) = inl refl
 name_codes (name.Arity n) = inl refl
 name_codes (name.BadMain n) = inl refl
 name_codes (name.Limit n) = inr refl
-name_codes name.Memory = inl refl
 
 same_codes : (e : SameErr) → IsRefusalCode (same_status e)
 same_codes (same.Fails path vars values) = inl refl
@@ -69,8 +68,8 @@ check_codes check.Memory = inl refl
 pub refusal_codes : (r : Refusal) → IsRefusalCode (refusal_status r)
 refusal_codes (refusal.NoFile f) = fault_codes f
 refusal_codes (refusal.NotYet at) = inl refl
-refusal_codes (refusal.Names e) = name_codes e
-refusal_codes (refusal.Rules g e) = check_codes e
+refusal_codes (refusal.Names f) = name_codes f
+refusal_codes (refusal.Rules g f) = check_codes f.why
 
 -- 0, 6 or 7
 abbrev pub IsRunCode : ℕ → Type 0

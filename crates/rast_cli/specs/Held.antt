@@ -7,7 +7,7 @@ use Rattle.rast_terms.specs.declared.program.Program.{Program}
 use Rattle.rast_load.specs.declared.fault.TextFault.{TextFault}
 use Rattle.rast_load.specs.Reading.{IsFile, IsFault}
 use Rattle.rast_check.specs.Decided.{searched}
-use Rattle.rast_check.specs.Formed.{answer}
+use Rattle.rast_check.specs.Questions.{answer}
 use Rattle.rast_accept.specs.declared.refusal.Refusal.{Refusal}
 use Rattle.rast_accept.specs.Loading.{Says, Loads, IsReason}
 use Rattle.rast_words.specs.Asks.{AsksRun, AsksCheck, AsksShow}

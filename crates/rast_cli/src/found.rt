@@ -45,9 +45,9 @@ fn unloaded(alloc: Global, why: &LoadErr) -> Result<Said, AllocError>
 }
 
 // The accepted program that a text says.
-fn program_in(alloc: Global, text: &[u8]) -> Result<Found, AllocError>
-    requires { length text.now ≤ LIMIT }
-    ensures { IfOk result (IsFoundIn text.now) }
+fn program_in(alloc: Global, text: Vec<u8>) -> Result<Found, AllocError>
+    requires { length text.items ≤ LIMIT }
+    ensures { IfOk result (IsFoundIn text.items) }
 {
     match load(alloc, text) {
         Ok(checked) => Ok(Found::Program(checked)),
@@ -65,5 +65,5 @@ pub(crate) fn find<F: Files>(alloc: Global, name: &str, files: &mut F) -> Result
         Err(ReadErr::TooLong) => return Ok(Found::None(say_line(alloc, Answer::TooLong)?)),
         Err(ReadErr::Memory) => return Err(AllocError),
     };
-    program_in(alloc, &bytes)
+    program_in(alloc, bytes)
 }

@@ -8,7 +8,7 @@ use Rattle.rast_types.specs.Closed.{Table}
 use Rattle.rast_types.specs.declared.stop.Stop.TheVariants as stop
 use Rattle.rast_types.specs.declared.ty.Ty.{Ty}
 use Rattle.rast_types.specs.declared.ty.Ty.TheVariants as ty
-use Rattle.rast_equal.specs.Invalid.{first_refusal, IsRefusal, Judges, choice_claims, natural_claims}
+use Rattle.rast_equal.specs.Invalid.{first_refusal, IsRefusal, Judges, choice_claims, natural_claims, potential_claims, ticks_claims}
 use Rattle.rast_equal.specs.Valid.{Claim, Asks, Shape, IsTrueClaim, claims_of, leads_to_next, nonneg}
 use Rattle.rast_equal.specs.declared.validity.Refusal.{Refusal}
 use Rattle.rast_equal.specs.declared.validity.Refusal.TheVariants.{False, Stopped}
@@ -94,38 +94,46 @@ module _ (t : Table) (n : ℕ) (ps : List Formula) (few : n ≤ 16) (a : Ty) whe
   judged_assume {X} f m qs b r e i g h =
       judges_is (claims_of t n ps a) (claims_of t m qs b) r (ap (claims_of t n ps) e ∙ claims_assume t n ps few f b ∙ ap₂ (λ k (rs : List Formula). claims_of t k rs b) (sym i) (sym g)) h
 
-  pub pays_false : {X : Type 0} (l : Linear) (b : Ty) (x : Refusal) (r : Result X Refusal) → a ≡ ty.Pays l b → IsRefusal (first_refusal (Asks 3 n ps (nonneg l) ∷ [])) x → IsErrAnd r (λ f. f ≡ x) → Judges (claims_of t n ps a) r
-  pays_false {X} l b x r e h k = first_false (claims_of t n ps a) (Asks 3 n ps (nonneg l) ∷ []) (claims_of t n ps b) x r (ap (claims_of t n ps) e ∙ claims_pays t n ps few l b) h k
+  pub judged_pays : {X : Type 0} (l : Linear) (b : Ty) (r : Result X Refusal) → a ≡ ty.Pays l b → Judges (potential_claims t n ps l b) r → Judges (claims_of t n ps a) r
+  judged_pays {X} l b r e h = judges_is (claims_of t n ps a) (potential_claims t n ps l b) r (ap (claims_of t n ps) e ∙ claims_pays t n ps few l b) h
 
-  pub pays_then : {X : Type 0} (l : Linear) (b : Ty) (r : Result X Refusal) → a ≡ ty.Pays l b → AreTrue (Asks 3 n ps (nonneg l) ∷ []) → Judges (claims_of t n ps b) r → Judges (claims_of t n ps a) r
-  pays_then {X} l b r e h k = judges_after (claims_of t n ps a) (Asks 3 n ps (nonneg l) ∷ []) (claims_of t n ps b) r (ap (claims_of t n ps) e ∙ claims_pays t n ps few l b) h k
+  pub judged_gets : {X : Type 0} (l : Linear) (b : Ty) (r : Result X Refusal) → a ≡ ty.Gets l b → Judges (potential_claims t n ps l b) r → Judges (claims_of t n ps a) r
+  judged_gets {X} l b r e h = judges_is (claims_of t n ps a) (potential_claims t n ps l b) r (ap (claims_of t n ps) e ∙ claims_gets t n ps few l b) h
 
-  pub gets_false : {X : Type 0} (l : Linear) (b : Ty) (x : Refusal) (r : Result X Refusal) → a ≡ ty.Gets l b → IsRefusal (first_refusal (Asks 3 n ps (nonneg l) ∷ [])) x → IsErrAnd r (λ f. f ≡ x) → Judges (claims_of t n ps a) r
-  gets_false {X} l b x r e h k = first_false (claims_of t n ps a) (Asks 3 n ps (nonneg l) ∷ []) (claims_of t n ps b) x r (ap (claims_of t n ps) e ∙ claims_gets t n ps few l b) h k
+  pub judged_next : {X : Type 0} (l : Linear) (b : Ty) (r : Result X Refusal) → a ≡ ty.Next l b → Judges (ticks_claims t n ps l b) r → Judges (claims_of t n ps a) r
+  judged_next {X} l b r e h = judges_is (claims_of t n ps a) (ticks_claims t n ps l b) r (ap (claims_of t n ps) e ∙ claims_next t n ps few l b) h
 
-  pub gets_then : {X : Type 0} (l : Linear) (b : Ty) (r : Result X Refusal) → a ≡ ty.Gets l b → AreTrue (Asks 3 n ps (nonneg l) ∷ []) → Judges (claims_of t n ps b) r → Judges (claims_of t n ps a) r
-  gets_then {X} l b r e h k = judges_after (claims_of t n ps a) (Asks 3 n ps (nonneg l) ∷ []) (claims_of t n ps b) r (ap (claims_of t n ps) e ∙ claims_gets t n ps few l b) h k
+-- ---- the rules below a node
 
-  next_is : (l : Linear) (b : Ty) → a ≡ ty.Next l b → claims_of t n ps a ≡ (Asks 4 n ps (nonneg l) ∷ []) ++ ((Shape 5 n (not (leads_to_next t b)) ∷ []) ++ claims_of t n ps b)
-  next_is l b e = ap (claims_of t n ps) e ∙ claims_next t n ps few l b
+module _ (t : Table) (n : ℕ) (ps : List Formula) where
+  -- in the scope and under the premises that were made
+  pub judged_here : {X : Type 0} (x : Ctx) (b : Ty) (r : Result X Refusal) → x ≡ record { vars = n; premises = ps } → Judges (claims_of t x.vars x.premises b) r → Judges (claims_of t n ps b) r
+  judged_here {X} x b r e h = subst (λ (y : Ctx). Judges (claims_of t y.vars y.premises b) r) e h
 
-  pub next_false : {X : Type 0} (l : Linear) (b : Ty) (x : Refusal) (r : Result X Refusal) → a ≡ ty.Next l b → IsRefusal (first_refusal (Asks 4 n ps (nonneg l) ∷ [])) x → IsErrAnd r (λ f. f ≡ x) → Judges (claims_of t n ps a) r
-  next_false {X} l b x r e h k = first_false (claims_of t n ps a) (Asks 4 n ps (nonneg l) ∷ []) ((Shape 5 n (not (leads_to_next t b)) ∷ []) ++ claims_of t n ps b) x r (next_is l b e) h k
+  module _ (l : Linear) (b : Ty) where
+    pub potential_false : {X : Type 0} (x : Refusal) (r : Result X Refusal) → IsRefusal (first_refusal (Asks 3 n ps (nonneg l) ∷ [])) x → IsErrAnd r (λ f. f ≡ x) → Judges (potential_claims t n ps l b) r
+    potential_false {X} x r h k = first_false (potential_claims t n ps l b) (Asks 3 n ps (nonneg l) ∷ []) (claims_of t n ps b) x r refl h k
 
-  shape_false : (ok : Bool) → ok ≡ true → IsRefusal (first_refusal (Shape 5 n (not ok) ∷ [])) (False 5 n None)
-  shape_false true e = refl
-  shape_false false e = absurd (cc)
+    pub potential_then : {X : Type 0} (r : Result X Refusal) → AreTrue (Asks 3 n ps (nonneg l) ∷ []) → Judges (claims_of t n ps b) r → Judges (potential_claims t n ps l b) r
+    potential_then {X} r h k = judges_after (potential_claims t n ps l b) (Asks 3 n ps (nonneg l) ∷ []) (claims_of t n ps b) r refl h k
 
-  shape_true : (ok : Bool) → ok ≡ false → AreTrue (Shape 5 n (not ok) ∷ [])
-  shape_true false e = (refl, All-cons IsTrueClaim (Shape 5 n true) [] refl (All-nil IsTrueClaim))
-  shape_true true e = absurd (cc)
+    pub ticks_false : {X : Type 0} (x : Refusal) (r : Result X Refusal) → IsRefusal (first_refusal (Asks 4 n ps (nonneg l) ∷ [])) x → IsErrAnd r (λ f. f ≡ x) → Judges (ticks_claims t n ps l b) r
+    ticks_false {X} x r h k = first_false (ticks_claims t n ps l b) (Asks 4 n ps (nonneg l) ∷ []) ((Shape 5 n (not (leads_to_next t b)) ∷ []) ++ claims_of t n ps b) x r refl h k
 
-  pub next_shape : (l : Linear) (b : Ty) (ok : Bool) → a ≡ ty.Next l b → AreTrue (Asks 4 n ps (nonneg l) ∷ []) → ok ≡ leads_to_next t b → ok ≡ true → IsRefusal (first_refusal (claims_of t n ps a)) (False 5 n None)
-  next_shape l b ok e h is f =
-      judges_after {X = Unit {0}} (claims_of t n ps a) (Asks 4 n ps (nonneg l) ∷ []) ((Shape 5 n (not (leads_to_next t b)) ∷ []) ++ claims_of t n ps b) (Err (False 5 n None)) (next_is l b e) h
-      (refused_first ((Shape 5 n (not (leads_to_next t b)) ∷ []) ++ claims_of t n ps b) (Shape 5 n (not (leads_to_next t b)) ∷ []) (claims_of t n ps b) (False 5 n None) refl (shape_false (leads_to_next t b) (sym is ∙ f)))
+    shape_false : (ok : Bool) → ok ≡ true → IsRefusal (first_refusal (Shape 5 n (not ok) ∷ [])) (False 5 n None)
+    shape_false true e = refl
+    shape_false false e = absurd (cc)
 
-  pub next_then : {X : Type 0} (l : Linear) (b : Ty) (ok : Bool) (r : Result X Refusal) → a ≡ ty.Next l b → AreTrue (Asks 4 n ps (nonneg l) ∷ []) → ok ≡ leads_to_next t b → ok ≡ false → Judges (claims_of t n ps b) r → Judges (claims_of t n ps a) r
-  next_then {X} l b ok r e h is f k =
-      judges_after (claims_of t n ps a) (Asks 4 n ps (nonneg l) ∷ []) ((Shape 5 n (not (leads_to_next t b)) ∷ []) ++ claims_of t n ps b) r (next_is l b e) h
-      (judges_after ((Shape 5 n (not (leads_to_next t b)) ∷ []) ++ claims_of t n ps b) (Shape 5 n (not (leads_to_next t b)) ∷ []) (claims_of t n ps b) r refl (shape_true (leads_to_next t b) (sym is ∙ f)) k)
+    shape_true : (ok : Bool) → ok ≡ false → AreTrue (Shape 5 n (not ok) ∷ [])
+    shape_true false e = (refl, All-cons IsTrueClaim (Shape 5 n true) [] refl (All-nil IsTrueClaim))
+    shape_true true e = absurd (cc)
+
+    pub ticks_shape : (ok : Bool) → AreTrue (Asks 4 n ps (nonneg l) ∷ []) → ok ≡ leads_to_next t b → ok ≡ true → IsRefusal (first_refusal (ticks_claims t n ps l b)) (False 5 n None)
+    ticks_shape ok h is f =
+        judges_after {X = Unit {0}} (ticks_claims t n ps l b) (Asks 4 n ps (nonneg l) ∷ []) ((Shape 5 n (not (leads_to_next t b)) ∷ []) ++ claims_of t n ps b) (Err (False 5 n None)) refl h
+        (refused_first ((Shape 5 n (not (leads_to_next t b)) ∷ []) ++ claims_of t n ps b) (Shape 5 n (not (leads_to_next t b)) ∷ []) (claims_of t n ps b) (False 5 n None) refl (shape_false (leads_to_next t b) (sym is ∙ f)))
+
+    pub ticks_then : {X : Type 0} (ok : Bool) (r : Result X Refusal) → AreTrue (Asks 4 n ps (nonneg l) ∷ []) → ok ≡ leads_to_next t b → ok ≡ false → Judges (claims_of t n ps b) r → Judges (ticks_claims t n ps l b) r
+    ticks_then {X} ok r h is f k =
+        judges_after (ticks_claims t n ps l b) (Asks 4 n ps (nonneg l) ∷ []) ((Shape 5 n (not (leads_to_next t b)) ∷ []) ++ claims_of t n ps b) r refl h
+        (judges_after ((Shape 5 n (not (leads_to_next t b)) ∷ []) ++ claims_of t n ps b) (Shape 5 n (not (leads_to_next t b)) ∷ []) (claims_of t n ps b) r refl (shape_true (leads_to_next t b) (sym is ∙ f)) k)

@@ -46,7 +46,7 @@ pub(crate) fn wanted(alloc: Global, place: &Place) -> SameErr
 }
 
 /// Whether both types are the same name with equal arguments.
-pub(crate) fn ask_name(alloc: Global, place: &Place, left: &Ty, right: &Ty) -> Result<(), SameErr>
+pub fn ask_name(alloc: Global, place: &Place, left: &Ty, right: &Ty) -> Result<(), SameErr>
     requires { AreFit place.now left.now right.now }
     ensures { Decides (by_name place.now left.now right.now) result }
 {

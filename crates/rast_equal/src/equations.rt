@@ -209,8 +209,8 @@ fn side_refused(alloc: Global, refusal: Refusal) -> SameErr
     }
 }
 
-// Ticks and heads of both sides.
-fn expose_both(
+/// Ticks and heads of both sides of an equation.
+pub fn expose_both(
     alloc: Global,
     table: &TypeTable,
     equation: &Equation,

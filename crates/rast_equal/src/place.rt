@@ -32,7 +32,7 @@ pub struct Pair {
 
 impl Place {
     /// The place at which a walk begins, with so many variables and these premises.
-    pub(crate) fn top(alloc: Global, vars: u8, premises: &[Formula]) -> Result<Place, AllocError>
+    pub fn top(alloc: Global, vars: u8, premises: &[Formula]) -> Result<Place, AllocError>
         ensures { IfOk result (λ p. p ≡ top vars premises.now) }
     {
         Ok(Place {
@@ -101,10 +101,7 @@ impl Place {
 }
 
 /// The same formulas again.
-pub(crate) fn copy_formulas(
-    alloc: Global,
-    formulas: &[Formula],
-) -> Result<Items<Formula>, AllocError>
+pub fn copy_formulas(alloc: Global, formulas: &[Formula]) -> Result<Items<Formula>, AllocError>
     ensures { IfOk result (λ out. out ≡ formulas.now) }
 {
     let mut out = Items::new(alloc);

@@ -1,5 +1,5 @@
 // The references of a walk, served in order.
-ghost use Rattle.std.specs.Prelude.{◌≡◌, ◌∷◌, [], ◌≤◌, All, IfOk, flat_map, length};
+ghost use Rattle.std.specs.Prelude.{◌≡◌, ◌∷◌, [], ◌≤◌, All, IfOk, Some, flat_map, length};
 ghost use Rattle.std.specs.Option.{option_copied};
 ghost use Rattle.rast_index.specs.Truth.{put};
 ghost use Rattle.rast_types.specs.Made.{Answers as Makes};
@@ -166,6 +166,31 @@ fn numbered(equations: &[Equation], number: u32) -> Option<&Equation>
     equations.get(number as usize - 1)
 }
 
+/// Whether two types are an instance of the equation at these arguments.
+pub fn ask_instance(
+    alloc: Global,
+    equation: &Equation,
+    args: &[Lin],
+    place: &Place,
+    left: &Ty,
+    right: &Ty,
+) -> Result<(), SameErr>
+    requires fit { AreFit place.now left.now right.now }
+    requires equation { IsFitEquation equation.now }
+    ensures { Decides (by_equation (Some equation.now) args.now place.now left.now right.now) result }
+{
+    if args.len() != equation.vars as usize {
+        return Err(wanted(alloc, place));
+    }
+    if !are_closed(args, place.vars) {
+        return Err(wanted(alloc, place));
+    }
+    ask_natural_each(alloc, place, args)?;
+    ask_premise(alloc, place, &equation.premise, args)?;
+    alike_side(alloc, place, left, &equation.left, args)?;
+    alike_side(alloc, place, right, &equation.right, args)
+}
+
 // Whether two types are an instance of the equation with this number.
 fn ask_equation(
     alloc: Global,
@@ -183,16 +208,7 @@ fn ask_equation(
     let Some(equation) = numbered(equations, number) else {
         return Err(wanted(alloc, place));
     };
-    if args.len() != equation.vars as usize {
-        return Err(wanted(alloc, place));
-    }
-    if !are_closed(args, place.vars) {
-        return Err(wanted(alloc, place));
-    }
-    ask_natural_each(alloc, place, args)?;
-    ask_premise(alloc, place, &equation.premise, args)?;
-    alike_side(alloc, place, left, &equation.left, args)?;
-    alike_side(alloc, place, right, &equation.right, args)
+    ask_instance(alloc, equation, args, place, left, right)
 }
 
 fn ask_ref(

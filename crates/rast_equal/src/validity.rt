@@ -1,7 +1,7 @@
 // Validity of types.
 ghost use Rattle.std.specs.Prelude.{◌≡◌, ◌<◌, ◌≤◌, ◌+◌, ◌^◌, ◌++◌, ◌∷◌, [], All, IfOk, length};
 ghost use Rattle.rast_equal.specs.Fit.{AreClosed, AreWithin, AreWithinTypes, IsClosedFrom, IsFitTypeDef, IsWithin, IsWithinType};
-ghost use Rattle.rast_equal.specs.Invalid.{Judges, AnswersType, choice_claims, natural_claims, table_refusal, type_err, type_refusal};
+ghost use Rattle.rast_equal.specs.Invalid.{Judges, AnswersType, choice_claims, natural_claims, potential_claims, table_refusal, ticks_claims, type_err, type_refusal};
 ghost use Rattle.rast_equal.specs.Valid.{Asks, IsValidTable, IsValidType, claims_of, def_claims, leads_to_next, nonneg};
 
 use crate::place::copy_formulas;
@@ -159,26 +159,91 @@ pub(crate) fn check_type(alloc: Global, table: &TypeTable, ctx: &Ctx, a: &Ty) ->
             check_type(alloc, table, ctx, c.get())
         }
         Ty::Named(_, args) => check_natural_each(alloc, ctx, args.as_slice()),
-        Ty::Ex(b) => check_type(alloc, table, &with_variable(alloc, ctx)?, b.get()),
-        Ty::All(b) => check_type(alloc, table, &with_variable(alloc, ctx)?, b.get()),
-        Ty::Assert(f, b) => check_type(alloc, table, &with_premise(alloc, ctx, f)?, b.get()),
-        Ty::Assume(f, b) => check_type(alloc, table, &with_premise(alloc, ctx, f)?, b.get()),
-        Ty::Pays(p, b) => {
-            check_natural(alloc, ctx, 3, p)?;
-            check_type(alloc, table, ctx, b.get())
-        }
-        Ty::Gets(p, b) => {
-            check_natural(alloc, ctx, 3, p)?;
-            check_type(alloc, table, ctx, b.get())
-        }
-        Ty::Next(ticks, b) => {
-            check_natural(alloc, ctx, 4, ticks)?;
-            if leads_to_next(table, b.get()) {
-                return Err(Refusal::False(5, ctx.vars, None));
-            }
-            check_type(alloc, table, ctx, b.get())
-        }
+        Ty::Ex(b) => check_below_variable(alloc, table, ctx, b.get()),
+        Ty::All(b) => check_below_variable(alloc, table, ctx, b.get()),
+        Ty::Assert(f, b) => check_below_premise(alloc, table, ctx, b.get(), f),
+        Ty::Assume(f, b) => check_below_premise(alloc, table, ctx, b.get(), f),
+        Ty::Pays(p, b) => check_below_potential(alloc, table, ctx, p, b.get()),
+        Ty::Gets(p, b) => check_below_potential(alloc, table, ctx, p, b.get()),
+        Ty::Next(ticks, b) => check_below_ticks(alloc, table, ctx, ticks, b.get()),
     }
+}
+
+// The body of a quantifier.
+#[cycle(check_type)]
+fn check_below_variable(
+    alloc: Global,
+    table: &TypeTable,
+    ctx: &Ctx,
+    body: &Ty,
+) -> Result<(), Refusal>
+    requires few { ctx.now.vars ≤ 16 }
+    requires premises { AreWithin ctx.now.vars ctx.now.premises }
+    requires within { IsWithinType (ctx.now.vars + 1) body.now }
+    ensures { Judges (claims_of table.now.defs (ctx.now.vars + 1) ctx.now.premises body.now) result }
+{
+    let inner = with_variable(alloc, ctx)?;
+    check_type(alloc, table, &inner, body)
+}
+
+// The body of a constraint.
+#[cycle(check_type)]
+fn check_below_premise(
+    alloc: Global,
+    table: &TypeTable,
+    ctx: &Ctx,
+    body: &Ty,
+    premise: &Formula,
+) -> Result<(), Refusal>
+    requires few { ctx.now.vars ≤ 16 }
+    requires premises { AreWithin ctx.now.vars ctx.now.premises }
+    requires premise { IsWithin ctx.now.vars premise.now }
+    requires within { IsWithinType ctx.now.vars body.now }
+    ensures { Judges (claims_of table.now.defs ctx.now.vars (ctx.now.premises ++ premise.now ∷ []) body.now) result }
+{
+    let inner = with_premise(alloc, ctx, premise)?;
+    check_type(alloc, table, &inner, body)
+}
+
+// A potential, and then the body.
+#[cycle(check_type)]
+fn check_below_potential(
+    alloc: Global,
+    table: &TypeTable,
+    ctx: &Ctx,
+    potential: &Lin,
+    body: &Ty,
+) -> Result<(), Refusal>
+    requires few { ctx.now.vars ≤ 16 }
+    requires premises { AreWithin ctx.now.vars ctx.now.premises }
+    requires closed { IsClosedFrom ctx.now.vars potential.now }
+    requires within { IsWithinType ctx.now.vars body.now }
+    ensures { Judges (potential_claims table.now.defs ctx.now.vars ctx.now.premises potential.now body.now) result }
+{
+    check_natural(alloc, ctx, 3, potential)?;
+    check_type(alloc, table, ctx, body)
+}
+
+// Ticks, what stands directly behind them, and then the body.
+#[cycle(check_type)]
+fn check_below_ticks(
+    alloc: Global,
+    table: &TypeTable,
+    ctx: &Ctx,
+    ticks: &Lin,
+    body: &Ty,
+) -> Result<(), Refusal>
+    requires few { ctx.now.vars ≤ 16 }
+    requires premises { AreWithin ctx.now.vars ctx.now.premises }
+    requires closed { IsClosedFrom ctx.now.vars ticks.now }
+    requires within { IsWithinType ctx.now.vars body.now }
+    ensures { Judges (ticks_claims table.now.defs ctx.now.vars ctx.now.premises ticks.now body.now) result }
+{
+    check_natural(alloc, ctx, 4, ticks)?;
+    if leads_to_next(table, body) {
+        return Err(Refusal::False(5, ctx.vars, None));
+    }
+    check_type(alloc, table, ctx, body)
 }
 
 #[cycle(check_type)]

@@ -22,7 +22,7 @@ use std::alloc::{AllocError, Global};
 
 /// What two types show at their outside.
 #[derive(Drop)]
-pub(crate) struct Shown {
+pub struct Shown {
     /// What is met there.
     pub own: Items<Met>,
     /// The parts below, the first last.
@@ -30,7 +30,7 @@ pub(crate) struct Shown {
 }
 
 /// Takes the next pair off a walk, puts its parts in its place, and gives what is met at the pair itself.
-pub(crate) fn next(alloc: Global, pairs: &mut Items<Pair>) -> Result<Option<Items<Met>>, AllocError>
+pub fn next(alloc: Global, pairs: &mut Items<Pair>) -> Result<Option<Items<Met>>, AllocError>
     requires { All IsFit pairs.old }
     ensures { IfOk result (BringsNext pairs.old pairs.new) }
 {
@@ -99,7 +99,8 @@ fn only(alloc: Global, met: Met) -> Result<Shown, AllocError>
     })
 }
 
-fn is_name(a: &Ty) -> bool
+/// Whether the type is a name.
+pub fn is_name(a: &Ty) -> bool
     ensures { result ≡ is_name a.now }
 {
     matches!(a, Ty::Named(_, _))
@@ -112,7 +113,7 @@ fn is_next(a: &Ty) -> bool
 }
 
 /// Both types at the place.
-pub(crate) fn pair(alloc: Global, place: Place, left: &Ty, right: &Ty) -> Result<Pair, AllocError>
+pub fn pair(alloc: Global, place: Place, left: &Ty, right: &Ty) -> Result<Pair, AllocError>
     ensures { IfOk result (λ x. x ≡ pair place left.now right.now) }
 {
     match copy_both(alloc, left, right) {
@@ -124,8 +125,8 @@ pub(crate) fn pair(alloc: Global, place: Place, left: &Ty, right: &Ty) -> Result
     }
 }
 
-// The same types again.
-fn copy_both(alloc: Global, left: &Ty, right: &Ty) -> Result<(Ty, Ty), AllocError>
+/// The same types again.
+pub fn copy_both(alloc: Global, left: &Ty, right: &Ty) -> Result<(Ty, Ty), AllocError>
     ensures { IfOk result (λ both. (both.0 ≡ left.now) × (both.1 ≡ right.now)) }
 {
     let left = left.copy(alloc)?;
@@ -170,8 +171,8 @@ fn only_equal(alloc: Global, place: &Place, a: &Lin, b: &Lin) -> Result<Items<Me
     Ok(own)
 }
 
-// The ticks of a type, and its body.
-fn timed(a: &Ty) -> (Lin, &Ty)
+/// The ticks of a type, and its body; no ticks, and the type itself, where it is no next.
+pub fn timed(a: &Ty) -> (Lin, &Ty)
     ensures { timed a.now ≡ record { ticks = result.0; body = result.1.now } }
 {
     match a {
@@ -192,12 +193,7 @@ fn show_ticks(alloc: Global, place: &Place, left: &Ty, right: &Ty) -> Result<Sho
 }
 
 /// What is met at two heads, and the pairs of their parts.
-pub(crate) fn show_heads(
-    alloc: Global,
-    place: &Place,
-    left: &Ty,
-    right: &Ty,
-) -> Result<Shown, AllocError>
+pub fn show_heads(alloc: Global, place: &Place, left: &Ty, right: &Ty) -> Result<Shown, AllocError>
     requires { AreFit place.now left.now right.now }
     ensures { IfOk result (ShowsHeads (heads_of left.now right.now place.now)) }
 {
@@ -430,7 +426,8 @@ fn are_among(ts: &[(u32, Ty)], us: &[(u32, Ty)]) -> bool
     true
 }
 
-fn are_in_order(ts: &[(u32, Ty)], us: &[(u32, Ty)]) -> bool
+/// Whether two choices have the same labels in the same order.
+pub fn are_in_order(ts: &[(u32, Ty)], us: &[(u32, Ty)]) -> bool
     ensures { result ≡ same_list (labels ts.now) (labels us.now) }
 {
     if ts.len() != us.len() {

@@ -1,5 +1,5 @@
 -- Answers that are gathered one after another, and places in lists.
-use Rattle.std.proofs.Common.{◌≡◌, ℕ, zero, suc, ◌+◌, ◌<◌, Bool, true, false, ◌&&◌, List, [], ◌∷◌, ◌++◌, length, drop, get_or, map, refl, sym, ap, ap₂, ◌∙◌, arith, add-one, drop-cons, append_assoc, Result, Ok, Err, subst}
+use Rattle.std.proofs.Common.{◌≡◌, ℕ, zero, suc, ◌+◌, ◌<◌, Bool, true, false, ◌&&◌, List, [], ◌∷◌, ◌++◌, length, drop, get_or, map, refl, sym, ap, ap₂, ◌∙◌, arith, add-one, drop-cons, append_assoc, Ok, Err}
 use Rattle.std.specs.List.{list_all}
 use Rattle.rast_formula.specs.declared.refusal.ScopeErr.{ScopeErr}
 use Rattle.rast_formula.specs.declared.refusal.ScopeErr.TheVariants as refusal

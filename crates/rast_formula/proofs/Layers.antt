@@ -1,5 +1,5 @@
 -- What a written term or formula whose parts are a list stands for, and its names, from theirs.
-use Rattle.std.proofs.Common.{◌≡◌, ℕ, Bool, true, false, ◌&&◌, List, [], ◌∷◌, ◌++◌, map, refl, sym, ap, ◌∙◌, subst, Ok, Err}
+use Rattle.std.proofs.Common.{◌≡◌, ℕ, Bool, true, false, ◌&&◌, List, [], ◌∷◌, ◌++◌, map, refl, sym, ap, ◌∙◌, subst, Ok}
 use Rattle.std.specs.Prelude.{not, ◌==◌}
 use Rattle.std.specs.List.{flat_map, list_all}
 use Rattle.std.proofs.lemmas.List.Folds.{flat_map-map}
@@ -21,22 +21,22 @@ use Rattle.rast_ast.specs.declared.form.Form.TheFolds.{fold_out-Disjunction, fol
 use Rattle.rast_ast.specs.Formulas.{form_proper, literal_proper, conjunction_proper, disjunction_proper, form_fits, disjunction_fits, conjunction_fits, literal_fits}
 use Rattle.rast_formula.specs.Answers.{Answer, Gives, ◌>>=◌}
 use Rattle.rast_formula.proofs.Each.{goes_on}
-use Rattle.rast_formula.specs.Scopes.{Bound}
+use Rattle.rast_formula.specs.Scopes.{Look}
 use Rattle.rast_index.specs.Linear.{Linear}
 use Rattle.rast_formula.specs.Linears.{linear_of, term_of, term_step, lin_step, sums, signed_of}
 use Rattle.rast_formula.specs.Formulas.{A, all_joined, form_step, literal_step, conjunction_step, disjunction_step, disjunction_of, conjunction_of, literal_of}
 use Rattle.rast_formula.specs.Variables.{Texts, term_names_step, lin_names_step, lin_names, term_names, signed_names, form_names_step, literal_names_step, conjunction_names_step, disjunction_names_step, form_names, disjunction_names, conjunction_names, literal_names}
 
-pub linear_at : (s : List Bound) (l : Lin) → linear_of s l ≡ (term_of s l.first >>= λ a. sums a (map (signed_of s) l.rest))
+pub linear_at : (s : Look) (l : Lin) → linear_of s l ≡ (term_of s l.first >>= λ a. sums a (map (signed_of s) l.rest))
 linear_at s l = fold_out-Lin (Answer Linear) (Answer Linear) (term_step s) lin_step l
 
 pub lin_names_at : (l : Lin) → lin_names l ≡ term_names l.first ++ flat_map signed_names l.rest
 lin_names_at l = fold_out-Lin Texts Texts term_names_step lin_names_step l ∙ ap (λ z. term_names l.first ++ z) (flat_map-map (λ t. t.1) (λ t. (t.0, term_names t.1)) l.rest)
 
-pub disjunction_at : (s : List Bound) (d : Disjunction) → disjunction_of s d ≡ all_joined formula.Or (conjunction_of s (out-Disjunction d).first) (map (conjunction_of s) (out-Disjunction d).rest)
+pub disjunction_at : (s : Look) (d : Disjunction) → disjunction_of s d ≡ all_joined formula.Or (conjunction_of s (out-Disjunction d).first) (map (conjunction_of s) (out-Disjunction d).rest)
 disjunction_at s d = fold_out-Disjunction A A A A form_step (literal_step s) conjunction_step disjunction_step d
 
-pub conjunction_at : (s : List Bound) (c : Conjunction) → conjunction_of s c ≡ all_joined formula.And (literal_of s (out-Conjunction c).first) (map (literal_of s) (out-Conjunction c).rest)
+pub conjunction_at : (s : Look) (c : Conjunction) → conjunction_of s c ≡ all_joined formula.And (literal_of s (out-Conjunction c).first) (map (literal_of s) (out-Conjunction c).rest)
 conjunction_at s c = fold_out-Conjunction A A A A form_step (literal_step s) conjunction_step disjunction_step c
 
 pub disjunction_names_at : (d : Disjunction) → disjunction_names d ≡ conjunction_names (out-Disjunction d).first ++ flat_map conjunction_names (out-Disjunction d).rest
@@ -69,7 +69,7 @@ conjunction_parts c h =
     (g.0, sym (all_true-map literal_fits (out-Conjunction c).rest) ∙ g.1)
 
 -- a linear term is its first term, and then the sums with the further ones
-pub linear_gives : (s : List Bound) (l : Lin) (x : Term) (xs : List (Sign × Term)) (first r : Answer Linear) → x ≡ l.first → xs ≡ l.rest → Gives (term_of s x) first
+pub linear_gives : (s : Look) (l : Lin) (x : Term) (xs : List (Sign × Term)) (first r : Answer Linear) → x ≡ l.first → xs ≡ l.rest → Gives (term_of s x) first
     → ((said : Answer Linear) → Gives said first → Gives (said >>= λ a. sums a (map (signed_of s) xs)) r) → Gives (linear_of s l) r
 linear_gives s l x xs first r one more h g =
     let step : Gives (term_of s l.first >>= λ a. sums a (map (signed_of s) l.rest)) r = rw (← one, ← more) (g (term_of s x) h) in

@@ -1,11 +1,12 @@
 -- Terms in which only variables below a number occur.
-use Rattle.std.proofs.Common.{◌≡◌, ℕ, zero, suc, ◌+◌, ◌-◌, ◌*◌, ◌<◌, ◌≤◌, Bool, true, false, not, ◌&&◌, List, [], ◌∷◌, length, get_or, refl, sym, ap, ap₂, ◌∙◌, arith, subst, ℤ, pos, negsuc, ◌+ℤ◌, ◌*ℤ◌, int_lt, cond, max, Option, Some, None, IfSome}
+use Rattle.std.proofs.Common.{◌≡◌, ℕ, zero, suc, ◌+◌, ◌-◌, ◌<◌, ◌≤◌, Bool, true, false, not, ◌&&◌, List, [], ◌∷◌, get_or, refl, ap, ap₂, ◌∙◌, arith, subst, ℤ, pos, negsuc, ◌+ℤ◌, ◌*ℤ◌, int_lt, cond, Option, Some, None, IfSome}
 use Rattle.std.specs.Prelude.{◌==◌, if◌then◌else◌}
 use Rattle.std.specs.List.{list_all}
+use Rattle.std.specs.Str.{bytes_eq}
 use Rattle.std.proofs.lemmas.Int.{ints}
 use Rattle.std.proofs.lemmas.Bool.{ne_eqb}
 use Rattle.rast_index.specs.Linear.{Linear, int_eq, is_closed, part, tabulate, from_parts, plus, less, times, fixed, variable}
-use Rattle.rast_formula.specs.Scopes.{Bound, span, is_scoped}
+use Rattle.rast_formula.specs.Scopes.{Bound, Text, FindsBelow, newest_from, variable_of, span, is_scoped}
 
 zero_is : ℤ → Bool
 zero_is c = int_eq c (pos 0)
@@ -84,12 +85,14 @@ scoped_variable n k lt = zero_all (λ j. part (variable k) (suc j)) n 16 (λ j l
 
 pub ruleset scoped = (scoped_plus, scoped_less, scoped_times, scoped_fixed, scoped_variable)
 
--- a variable of a scope has a number below its span
-pub in_span : (s : List Bound) (i : ℕ) (b : Bound) → b ≡ get_or s i b → i < length s → b.number < span s
-in_span [] i b e lt = absurd (omega arith)
-in_span (c ∷ s) zero b e lt = let same : b.number ≡ c.number = ap (λ (x : Bound). x.number) e in omega (arith, same)
-in_span (c ∷ s) (suc i) b e lt = let h = in_span s i b e (omega arith) in omega (arith, h)
+-- where a variable is the last of its name, its number is below each bound of all
+newest_below : (found : Option ℕ) (m : Text) (s : List Bound) (n : ℕ) → IfSome found (λ k. k < n) → span s ≤ n → IfSome (newest_from found m s) (λ k. k < n)
+newest_below found m [] n h le = h
+newest_below found m (b ∷ s) n h le = newest_below (if bytes_eq b.name m then Some b.number else found) m s n (by (bytes_eq b.name m)) (omega arith)
+  where
+    by : (t : Bool) → IfSome (if t then Some b.number else found) (λ k. k < n)
+    by true = omega arith
+    by false = h
 
-pub later_within : (s : List Bound) (i : ℕ) (b : Bound) (t : Bool) (found : Option ℕ) → b ≡ get_or s i b → i < length s → IfSome found (λ k. k < span s) → IfSome (if t then Some b.number else found) (λ k. k < span s)
-later_within s i b true found e lt h = in_span s i b e lt
-later_within s i b false found e lt h = h
+pub finds_below : (s : List Bound) → FindsBelow (span s) (variable_of s)
+finds_below s m = newest_below None m s (span s) tt (omega arith)

@@ -1,5 +1,5 @@
 -- How many parts a written term has.
-use Rattle.std.proofs.Common.{◌≡◌, ℕ, zero, suc, ◌+◌, ◌<◌, ◌≤◌, List, [], ◌∷◌, map, length, get_or, refl, sym, ap, ◌∙◌, arith}
+use Rattle.std.proofs.Common.{◌≡◌, ℕ, zero, suc, ◌+◌, ◌<◌, List, [], ◌∷◌, map, length, get_or, sym, ap, ◌∙◌, arith}
 use Rattle.rast_ast.specs.declared.term.Sign.{Sign}
 use Rattle.rast_ast.specs.declared.term.Term.{Term}
 use Rattle.rast_ast.specs.declared.term.Lin.{Lin}

@@ -1,10 +1,9 @@
 -- Formulas in which only variables below a number occur and each divisor is at least 1, from their parts.
-use Rattle.std.proofs.Common.{◌≡◌, ℕ, zero, suc, ◌<◌, Bool, true, false, not, ◌&&◌, List, [], ◌∷◌, map, refl, sym, ap, ap₂, ◌∙◌, arith, subst}
+use Rattle.std.proofs.Common.{◌≡◌, ℕ, zero, suc, Bool, true, false, not, ◌&&◌, List, [], ◌∷◌, map, refl, ap₂, ◌∙◌, arith, subst}
 use Rattle.std.proofs.lemmas.Bool.{lt-ltb}
 use Rattle.std.specs.Prelude.{nat_lt, ◌==◌}
 use Rattle.std.specs.List.{list_all}
-use Rattle.std.proofs.lemmas.List.Folds.{list_all-map}
-use Rattle.rast_index.specs.Linear.{Linear, is_closed}
+use Rattle.rast_index.specs.Linear.{Linear}
 use Rattle.rast_index.specs.Truth.{is_closed_formula, closed_step}
 use Rattle.rast_index.specs.declared.formula.Rel.{Rel as Relation}
 use Rattle.rast_index.specs.declared.formula.Formula.{Formula, roll-Formula}

@@ -13,7 +13,7 @@ use Rattle.rast_ast.specs.declared.form.Literal.{Literal}
 use Rattle.rast_ast.specs.declared.form.Form.TheOpen.{Form-F, Disjunction-F, Conjunction-F, Literal-F, Plain, Implies, Not, Group, True, False, Divides, Related}
 use Rattle.rast_ast.specs.declared.form.Form.TheFolds.{fold-Form, fold-Disjunction, fold-Conjunction, fold-Literal}
 use Rattle.rast_formula.specs.Answers.{Answer, ◌>>=◌, each}
-use Rattle.rast_formula.specs.Scopes.{Bound}
+use Rattle.rast_formula.specs.Scopes.{Look}
 use Rattle.rast_formula.specs.Linears.{linear_of}
 
 abbrev pub relation : Written → Rel
@@ -45,23 +45,23 @@ disjunction_step d = all_joined formula.Or d.first d.rest
 abbrev pub conjunction_step : Conjunction-F A A A A → A
 conjunction_step c = all_joined formula.And c.first c.rest
 
-abbrev pub literal_step : List Bound → Literal-F A A A A → A
-literal_step s (Not l) = l >>= λ f. Ok (formula.Not f)
-literal_step s (Group f) = f
-literal_step s True = Ok formula.True
-literal_step s False = Ok formula.False
-literal_step s (Divides k l) = linear_of s l >>= λ a. Ok (formula.Div k a)
-literal_step s (Related l r m) = linear_of s l >>= λ a. linear_of s m >>= λ b. Ok (formula.Rel a (relation r) b)
+abbrev pub literal_step : Look → Literal-F A A A A → A
+literal_step look (Not l) = l >>= λ f. Ok (formula.Not f)
+literal_step look (Group f) = f
+literal_step look True = Ok formula.True
+literal_step look False = Ok formula.False
+literal_step look (Divides k l) = linear_of look l >>= λ a. Ok (formula.Div k a)
+literal_step look (Related l r m) = linear_of look l >>= λ a. linear_of look m >>= λ b. Ok (formula.Rel a (relation r) b)
 
 -- groups vanish, and F /\ G /\ H is one conjunction of three members
-abbrev pub formula_of : List Bound → Form → Answer Formula
-formula_of s = fold-Form A A A A form_step (literal_step s) conjunction_step disjunction_step
+abbrev pub formula_of : Look → Form → Answer Formula
+formula_of look = fold-Form A A A A form_step (literal_step look) conjunction_step disjunction_step
 
-abbrev pub disjunction_of : List Bound → Disjunction → Answer Formula
-disjunction_of s = fold-Disjunction A A A A form_step (literal_step s) conjunction_step disjunction_step
+abbrev pub disjunction_of : Look → Disjunction → Answer Formula
+disjunction_of look = fold-Disjunction A A A A form_step (literal_step look) conjunction_step disjunction_step
 
-abbrev pub conjunction_of : List Bound → Conjunction → Answer Formula
-conjunction_of s = fold-Conjunction A A A A form_step (literal_step s) conjunction_step disjunction_step
+abbrev pub conjunction_of : Look → Conjunction → Answer Formula
+conjunction_of look = fold-Conjunction A A A A form_step (literal_step look) conjunction_step disjunction_step
 
-abbrev pub literal_of : List Bound → Literal → Answer Formula
-literal_of s = fold-Literal A A A A form_step (literal_step s) conjunction_step disjunction_step
+abbrev pub literal_of : Look → Literal → Answer Formula
+literal_of look = fold-Literal A A A A form_step (literal_step look) conjunction_step disjunction_step

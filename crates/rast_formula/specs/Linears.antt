@@ -1,5 +1,5 @@
 -- The linear term that a written one stands for.
-use Rattle.std.specs.Prelude.{ℕ, pos, if◌then◌else◌, nat_lt, List, [], ◌∷◌, Option, Some, None, Ok, Err, map}
+use Rattle.std.specs.Prelude.{ℕ, pos, if◌then◌else◌, nat_lt, List, [], ◌∷◌, Option, Some, None, Ok, Err}
 use Rattle.rast_index.specs.Linear.{Linear, is_small, fixed, variable, plus, less, times}
 use Rattle.rast_ast.specs.declared.term.Sign.{Sign}
 use Rattle.rast_ast.specs.declared.term.Sign.TheVariants as sign
@@ -9,7 +9,7 @@ use Rattle.rast_ast.specs.declared.term.Term.TheOpen.{Term-F, Lin-F, Times, Numb
 use Rattle.rast_ast.specs.declared.term.Term.TheFolds.{fold-Term, fold-Lin}
 use Rattle.rast_formula.specs.declared.refusal.ScopeErr.TheVariants as refusal
 use Rattle.rast_formula.specs.Answers.{Answer, ◌>>=◌}
-use Rattle.rast_formula.specs.Scopes.{Bound, variable_of, Text}
+use Rattle.rast_formula.specs.Scopes.{Look, Text}
 
 -- a term whose numbers are all below 2^32 in magnitude, or else a limit is passed
 abbrev pub limited : Linear → Answer Linear
@@ -29,21 +29,21 @@ abbrev pub sums : Linear → List (Sign × Answer Linear) → Answer Linear
 sums a [] = Ok a
 sums a (t ∷ ts) = t.1 >>= λ b. limited (signed t.0 a b) >>= λ c. sums c ts
 
-abbrev pub term_step : List Bound → Term-F (Answer Linear) (Answer Linear) → Answer Linear
-term_step s (Times k t) = t >>= λ l. limited (times k l)
-term_step s (Number k) = Ok (fixed (pos k))
-term_step s (Variable n) = variable_at n (variable_of s n)
-term_step s (Group l) = l
+abbrev pub term_step : Look → Term-F (Answer Linear) (Answer Linear) → Answer Linear
+term_step look (Times k t) = t >>= λ l. limited (times k l)
+term_step look (Number k) = Ok (fixed (pos k))
+term_step look (Variable n) = variable_at n (look n)
+term_step look (Group l) = l
 
 abbrev pub lin_step : Lin-F (Answer Linear) (Answer Linear) → Answer Linear
 lin_step l = l.first >>= λ a. sums a l.rest
 
-abbrev pub term_of : List Bound → Term → Answer Linear
-term_of s = fold-Term (Answer Linear) (Answer Linear) (term_step s) lin_step
+abbrev pub term_of : Look → Term → Answer Linear
+term_of look = fold-Term (Answer Linear) (Answer Linear) (term_step look) lin_step
 
-abbrev pub linear_of : List Bound → Lin → Answer Linear
-linear_of s = fold-Lin (Answer Linear) (Answer Linear) (term_step s) lin_step
+abbrev pub linear_of : Look → Lin → Answer Linear
+linear_of look = fold-Lin (Answer Linear) (Answer Linear) (term_step look) lin_step
 
 -- the answer for a term behind its sign
-abbrev pub signed_of : List Bound → Sign × Term → Sign × Answer Linear
-signed_of s t = (t.0, term_of s t.1)
+abbrev pub signed_of : Look → Sign × Term → Sign × Answer Linear
+signed_of look t = (t.0, term_of look t.1)

@@ -1,5 +1,5 @@
 -- Which variables the names at a place stand for.
-use Rattle.std.specs.Prelude.{ℕ, suc, Bool, List, [], ◌∷◌, Option, Some, None, if◌then◌else◌, max}
+use Rattle.std.specs.Prelude.{ℕ, suc, ◌<◌, Bool, IfSome, List, [], ◌∷◌, Option, Some, None, if◌then◌else◌, max}
 use Rattle.std.specs.Str.{bytes_eq}
 use Rattle.rast_index.specs.Linear.{Linear, is_closed}
 use Rattle.rast_index.specs.declared.formula.Formula.{Formula}
@@ -9,6 +9,16 @@ pub use Rattle.rast_formula.specs.declared.scope.Bound.{Bound}
 -- a name
 abbrev pub Text : Type 0
 Text = List ℕ
+
+-- which variable each name stands for at a place
+abbrev pub Look : Type 0
+Look = Text → Option ℕ
+
+-- each variable that may be named there has a number below this one
+abbrev pub FindsBelow : ℕ → Look → Type 0
+FindsBelow n look = (m : Text) → IfSome (look m) (λ k. k < n)
+
+-- ---- variables with their names
 
 -- the number of the last variable of this name, or else what was found before
 abbrev pub newest_from : Option ℕ → Text → List Bound → Option ℕ

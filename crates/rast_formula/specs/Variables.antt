@@ -1,5 +1,5 @@
 -- The variables of a formula that stands alone, numbered in the order in which they first occur in its text.
-use Rattle.std.specs.Prelude.{ℕ, Bool, nat_le, List, [], ◌∷◌, ◌++◌, length, if◌then◌else◌, Ok, Err}
+use Rattle.std.specs.Prelude.{nat_le, List, [], ◌∷◌, ◌++◌, length, if◌then◌else◌, Ok, Err}
 use Rattle.std.specs.List.{flat_map, list_any}
 use Rattle.std.specs.Str.{bytes_eq}
 use Rattle.rast_ast.specs.declared.term.Sign.{Sign}
@@ -16,7 +16,7 @@ use Rattle.rast_ast.specs.declared.form.Form.TheFolds.{fold-Form, fold-Disjuncti
 use Rattle.rast_formula.specs.declared.refusal.ScopeErr.TheVariants as refusal
 use Rattle.rast_formula.specs.declared.numbered.Numbered.{Numbered}
 use Rattle.rast_formula.specs.Answers.{Answer, ◌>>=◌}
-use Rattle.rast_formula.specs.Scopes.{Bound, Text}
+use Rattle.rast_formula.specs.Scopes.{Bound, Text, variable_of}
 use Rattle.rast_formula.specs.Formulas.{formula_of}
 
 abbrev pub Texts : Type 0
@@ -87,7 +87,7 @@ variables_of f = all_bound [] (form_names f)
 abbrev pub numbered : Form → Answer Numbered
 numbered f =
     if nat_le (length (variables_of f)) 16
-    then (formula_of (variables_of f) f >>= λ g. Ok (record { variables = variables_of f; formula = g }))
+    then (formula_of (variable_of (variables_of f)) f >>= λ g. Ok (record { variables = variables_of f; formula = g }))
     else Err refusal.Limit
 
 -- the names of a term behind its sign

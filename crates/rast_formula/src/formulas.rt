@@ -1,14 +1,14 @@
 // Formulas.
-ghost use Rattle.std.specs.Prelude.{◌≡◌, ◌∷◌, true, map, IfOk};
+ghost use Rattle.std.specs.Prelude.{◌≡◌, ◌∷◌, true, map, IfOk, ℕ};
 ghost use Rattle.std.specs.List.{list_all};
 ghost use Rattle.rast_index.specs.declared.formula.Formula.TheVariants as formula;
 ghost use Rattle.rast_ast.specs.Formulas.{form_fits, disjunction_fits, conjunction_fits, literal_fits};
 ghost use Rattle.rast_formula.specs.Answers.{Gives, each};
-ghost use Rattle.rast_formula.specs.Scopes.{span, is_good};
+ghost use Rattle.rast_formula.specs.Scopes.{FindsBelow, is_good};
 ghost use Rattle.rast_formula.specs.Formulas.{formula_of, disjunction_of, conjunction_of, literal_of, joined, relation};
 
+use crate::lookup::Scope;
 use crate::refusal::ScopeErr;
-use crate::scope::Bound;
 use crate::terms::linear_of;
 use rast_ast::{Conjunction, Disjunction, Form, Literal, Rel as Written};
 use rast_index::{Formula, Rel};
@@ -51,13 +51,12 @@ fn every(alloc: Global, first: Formula, rest: Items<Formula>) -> Result<Formula,
 
 /// The formula that a written one stands for, which the grammar has.
 ///
-/// `scope` has the variables that may be named there; a later one hides an earlier one of the same name. Groups vanish, and
-/// `F /\ G /\ H` is one conjunction of three members.
+/// `scope` says which variables may be named there. Groups vanish, and `F /\ G /\ H` is one conjunction of three members.
 #[cycle(formula)]
 #[tactic(auto, using(crate::proofs::Within::layers))]
-pub fn formula_of(alloc: Global, scope: &[Bound], form: &Form) -> Result<Formula, ScopeErr>
-    ensures gives { Gives (formula_of scope.now form.now) result }
-    ensures within { form_fits form.now ≡ true → IfOk result (λ f. is_good (span scope.now) f ≡ true) }
+pub fn formula_of<S: Scope>(alloc: Global, scope: &S, form: &Form) -> Result<Formula, ScopeErr>
+    ensures gives { Gives (formula_of (S.find scope.now) form.now) result }
+    ensures within { (n : ℕ) → FindsBelow n (S.find scope.now) → form_fits form.now ≡ true → IfOk result (λ f. is_good n f ≡ true) }
 {
     match form {
         Form::Plain(alone) => disjunction(alloc, scope, alone),
@@ -70,26 +69,29 @@ pub fn formula_of(alloc: Global, scope: &[Bound], form: &Form) -> Result<Formula
 }
 
 #[cycle(formula)]
-fn disjunction(alloc: Global, scope: &[Bound], d: &Disjunction) -> Result<Formula, ScopeErr>
-    ensures gives { Gives (disjunction_of scope.now d.now) result }
-    ensures within { disjunction_fits d.now ≡ true → IfOk result (λ f. is_good (span scope.now) f ≡ true) }
+fn disjunction<S: Scope>(alloc: Global, scope: &S, d: &Disjunction) -> Result<Formula, ScopeErr>
+    ensures gives { Gives (disjunction_of (S.find scope.now) d.now) result }
+    ensures within { (n : ℕ) → FindsBelow n (S.find scope.now) → disjunction_fits d.now ≡ true → IfOk result (λ f. is_good n f ≡ true) }
 {
     let first = conjunction(alloc, scope, &d.first)?;
     match conjunctions(alloc, scope, d.rest.as_slice()) {
         Ok(rest) => Ok(any(alloc, first, rest)?),
-        Err(fault) => Err(fault),
+        Err(fault) => {
+            drop(first);
+            Err(fault)
+        }
     }
 }
 
 // The formulas of further conjunctions.
 #[cycle(formula)]
-fn conjunctions(
+fn conjunctions<S: Scope>(
     alloc: Global,
-    scope: &[Bound],
+    scope: &S,
     rest: &[Conjunction],
 ) -> Result<Items<Formula>, ScopeErr>
-    ensures gives { Gives (each (map (conjunction_of scope.now) rest.now)) result }
-    ensures within { list_all conjunction_fits rest.now ≡ true → IfOk result (λ fs. list_all (is_good (span scope.now)) fs ≡ true) }
+    ensures gives { Gives (each (map (conjunction_of (S.find scope.now)) rest.now)) result }
+    ensures within { (n : ℕ) → FindsBelow n (S.find scope.now) → list_all conjunction_fits rest.now ≡ true → IfOk result (λ fs. list_all (is_good n) fs ≡ true) }
 {
     let mut all = Items::new(alloc);
     for next in rest {
@@ -102,22 +104,29 @@ fn conjunctions(
 }
 
 #[cycle(formula)]
-fn conjunction(alloc: Global, scope: &[Bound], c: &Conjunction) -> Result<Formula, ScopeErr>
-    ensures gives { Gives (conjunction_of scope.now c.now) result }
-    ensures within { conjunction_fits c.now ≡ true → IfOk result (λ f. is_good (span scope.now) f ≡ true) }
+fn conjunction<S: Scope>(alloc: Global, scope: &S, c: &Conjunction) -> Result<Formula, ScopeErr>
+    ensures gives { Gives (conjunction_of (S.find scope.now) c.now) result }
+    ensures within { (n : ℕ) → FindsBelow n (S.find scope.now) → conjunction_fits c.now ≡ true → IfOk result (λ f. is_good n f ≡ true) }
 {
     let first = literal(alloc, scope, c.first.get())?;
     match literals(alloc, scope, c.rest.as_slice()) {
         Ok(rest) => Ok(every(alloc, first, rest)?),
-        Err(fault) => Err(fault),
+        Err(fault) => {
+            drop(first);
+            Err(fault)
+        }
     }
 }
 
 // The formulas of further members.
 #[cycle(formula)]
-fn literals(alloc: Global, scope: &[Bound], rest: &[Literal]) -> Result<Items<Formula>, ScopeErr>
-    ensures gives { Gives (each (map (literal_of scope.now) rest.now)) result }
-    ensures within { list_all literal_fits rest.now ≡ true → IfOk result (λ fs. list_all (is_good (span scope.now)) fs ≡ true) }
+fn literals<S: Scope>(
+    alloc: Global,
+    scope: &S,
+    rest: &[Literal],
+) -> Result<Items<Formula>, ScopeErr>
+    ensures gives { Gives (each (map (literal_of (S.find scope.now)) rest.now)) result }
+    ensures within { (n : ℕ) → FindsBelow n (S.find scope.now) → list_all literal_fits rest.now ≡ true → IfOk result (λ fs. list_all (is_good n) fs ≡ true) }
 {
     let mut all = Items::new(alloc);
     for next in rest {
@@ -131,9 +140,9 @@ fn literals(alloc: Global, scope: &[Bound], rest: &[Literal]) -> Result<Items<Fo
 
 #[cycle(formula)]
 #[tactic(auto, using(crate::proofs::Within::layers))]
-fn literal(alloc: Global, scope: &[Bound], literal: &Literal) -> Result<Formula, ScopeErr>
-    ensures gives { Gives (literal_of scope.now literal.now) result }
-    ensures within { literal_fits literal.now ≡ true → IfOk result (λ f. is_good (span scope.now) f ≡ true) }
+fn literal<S: Scope>(alloc: Global, scope: &S, literal: &Literal) -> Result<Formula, ScopeErr>
+    ensures gives { Gives (literal_of (S.find scope.now) literal.now) result }
+    ensures within { (n : ℕ) → FindsBelow n (S.find scope.now) → literal_fits literal.now ≡ true → IfOk result (λ f. is_good n f ≡ true) }
 {
     match literal {
         Literal::Not(member) => {

@@ -2,6 +2,7 @@
 #![tactic(auto)]
 
 mod formulas;
+mod lookup;
 mod numbered;
 mod refusal;
 mod scope;
@@ -9,6 +10,7 @@ mod terms;
 mod variables;
 
 pub use formulas::formula_of;
+pub use lookup::Scope;
 pub use numbered::{Numbered, number};
 pub use refusal::ScopeErr;
 pub use scope::Bound;

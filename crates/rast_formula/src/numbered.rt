@@ -35,6 +35,6 @@ pub fn number(alloc: Global, form: &Form) -> Result<Numbered, ScopeErr>
     if variables.len() > 16 {
         return Err(ScopeErr::Limit);
     }
-    let formula = formula_of(alloc, variables.as_slice(), form)?;
+    let formula = formula_of(alloc, &variables, form)?;
     Ok(Numbered { variables, formula })
 }

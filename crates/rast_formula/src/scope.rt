@@ -1,9 +1,11 @@
 // The variables in scope at a place.
-ghost use Rattle.std.specs.Prelude.{◌≡◌, ◌<◌, Some, IfSome, if◌then◌else◌};
+ghost use Rattle.std.specs.Prelude.{◌≡◌, Some, if◌then◌else◌};
 ghost use Rattle.std.specs.Str.{bytes_eq};
-ghost use Rattle.rast_formula.specs.Scopes.{variable_of, span};
+ghost use Rattle.rast_formula.specs.Scopes.{variable_of};
 
+use crate::lookup::Scope;
 use rast_ast::Name;
+use sqlite_items::Items;
 
 /// A variable in scope: its name in the text, and its number.
 #[derive(Debug, Drop)]
@@ -25,10 +27,20 @@ fn later(found: Option<usize>, bound: &Bound, name: &Name) -> Option<usize>
     }
 }
 
+/// A later variable hides an earlier one of the same name.
+impl Scope for Items<Bound> {
+    ghost use Rattle.rast_formula.specs.Scopes.{variable_of};
+
+    ghost find = { variable_of };
+
+    fn find(&self, name: &Name) -> Option<usize> {
+        newest(self.as_slice(), name)
+    }
+}
+
 // The variable that a name stands for: the last one of this name.
-pub(crate) fn variable_of(scope: &[Bound], name: &Name) -> Option<usize>
-    ensures newest { result ≡ variable_of scope.now name.now }
-    ensures within { IfSome result (λ k. k < span scope.now) }
+fn newest(scope: &[Bound], name: &Name) -> Option<usize>
+    ensures { result ≡ variable_of scope.now name.now }
 {
     let mut found = None;
     for bound in scope {

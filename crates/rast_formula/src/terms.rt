@@ -2,23 +2,23 @@
 ghost use Rattle.std.specs.Prelude.{◌≡◌, true, map, pos, IfOk, ℕ};
 ghost use Rattle.rast_index.specs.Linear.{Linear, fixed, times};
 ghost use Rattle.rast_formula.specs.Answers.{Answer, Gives, ◌>>=◌ as ◌then◌};
-ghost use Rattle.rast_formula.specs.Scopes.{variable_of, span, is_scoped};
+ghost use Rattle.rast_formula.specs.Scopes.{FindsBelow, is_scoped};
 ghost use Rattle.rast_formula.specs.Linears.{linear_of, term_of, signed_of, limited, variable_at, signed, sums};
 
+use crate::lookup::Scope;
 use crate::refusal::ScopeErr;
-use crate::scope::{Bound, variable_of};
 use rast_ast::{Lin as Written, Name, Sign, Term};
 use rast_index::{Lin, add, scale, sub};
 use std::alloc::Global;
 
 /// The linear term that a written one stands for.
 ///
-/// `scope` has the variables that may be named there; a later one hides an earlier one of the same name. Each term of the
-/// text and each sum of first terms has to be within the limits.
+/// `scope` says which variables may be named there. Each term of the text and each sum of first terms has to be within the
+/// limits.
 #[cycle(linear)]
-pub fn linear_of(alloc: Global, scope: &[Bound], lin: &Written) -> Result<Lin, ScopeErr>
-    ensures gives { Gives (linear_of scope.now lin.now) result }
-    ensures closed { IfOk result (λ l. is_scoped (span scope.now) l ≡ true) }
+pub fn linear_of<S: Scope>(alloc: Global, scope: &S, lin: &Written) -> Result<Lin, ScopeErr>
+    ensures gives { Gives (linear_of (S.find scope.now) lin.now) result }
+    ensures closed { (n : ℕ) → FindsBelow n (S.find scope.now) → IfOk result (λ l. is_scoped n l ≡ true) }
 {
     let first = term(alloc, scope, lin.first.get());
     sum(alloc, scope, first, lin.rest.as_slice())
@@ -26,14 +26,14 @@ pub fn linear_of(alloc: Global, scope: &[Bound], lin: &Written) -> Result<Lin, S
 
 // What the first term gives, and the further ones, each with its sign.
 #[cycle(linear)]
-fn sum(
+fn sum<S: Scope>(
     alloc: Global,
-    scope: &[Bound],
+    scope: &S,
     first: Result<Lin, ScopeErr>,
     rest: &[(Sign, Term)],
 ) -> Result<Lin, ScopeErr>
-    ensures gives { (said : Answer Linear) → Gives said first → Gives (said then λ a. sums a (map (signed_of scope.now) rest.now)) result }
-    ensures closed { IfOk first (λ a. is_scoped (span scope.now) a ≡ true) → IfOk result (λ l. is_scoped (span scope.now) l ≡ true) }
+    ensures gives { (said : Answer Linear) → Gives said first → Gives (said then λ a. sums a (map (signed_of (S.find scope.now)) rest.now)) result }
+    ensures closed { (n : ℕ) → FindsBelow n (S.find scope.now) → IfOk first (λ a. is_scoped n a ≡ true) → IfOk result (λ l. is_scoped n l ≡ true) }
 {
     let mut total = match first {
         Ok(first) => first,
@@ -50,9 +50,9 @@ fn sum(
 
 #[cycle(linear)]
 #[tactic(auto, using(crate::proofs::Scoping::scoped))]
-fn term(alloc: Global, scope: &[Bound], term: &Term) -> Result<Lin, ScopeErr>
-    ensures gives { Gives (term_of scope.now term.now) result }
-    ensures closed { IfOk result (λ l. is_scoped (span scope.now) l ≡ true) }
+fn term<S: Scope>(alloc: Global, scope: &S, term: &Term) -> Result<Lin, ScopeErr>
+    ensures gives { Gives (term_of (S.find scope.now) term.now) result }
+    ensures closed { (n : ℕ) → FindsBelow n (S.find scope.now) → IfOk result (λ l. is_scoped n l ≡ true) }
 {
     match term {
         Term::Times(k, t) => {
@@ -75,11 +75,11 @@ fn number(k: u32) -> Lin
 }
 
 #[tactic(auto, using(crate::proofs::Scoping::scoped))]
-fn variable(alloc: Global, scope: &[Bound], name: &Name) -> Result<Lin, ScopeErr>
-    ensures gives { Gives (variable_at name.now (variable_of scope.now name.now)) result }
-    ensures closed { IfOk result (λ l. is_scoped (span scope.now) l ≡ true) }
+fn variable<S: Scope>(alloc: Global, scope: &S, name: &Name) -> Result<Lin, ScopeErr>
+    ensures gives { Gives (variable_at name.now (S.find scope.now name.now)) result }
+    ensures closed { (n : ℕ) → FindsBelow n (S.find scope.now) → IfOk result (λ l. is_scoped n l ≡ true) }
 {
-    match variable_of(scope, name) {
+    match scope.find(name) {
         Some(k) if k < 16 => Ok(Lin::variable(k)),
         Some(_) => Err(ScopeErr::Limit),
         None => Err(ScopeErr::Unknown {

@@ -5,6 +5,7 @@ pub mod Again
 pub mod Deeds
 pub mod Step
 pub mod Run
+pub mod Renamed
 pub mod Solo
 pub mod Slack
 pub mod Actions

@@ -1,8 +1,9 @@
 -- The events that one process can do alone.
-use Rattle.std.specs.Prelude.{ℕ, zero, suc, ◌+◌, ◌-◌, ◌^◌, if◌then◌else◌, nat_lt, List, [], ◌∷◌, map, Option, Some, None}
-use Rattle.rast_items.specs.Items.{Link, Pid, Body, Chan, Proc, pid_at}
+use Rattle.std.specs.Prelude.{ℕ, zero, suc, ◌+◌, ◌-◌, ◌^◌, if◌then◌else◌, nat_lt, List, [], ◌∷◌, Option, Some, None}
+use Rattle.rast_items.specs.Items.{Link, Pid, Body, Proc}
 use Rattle.rast_items.specs.Deeds.{Code, Deed, Puts, Makes, Turns, Works, Delays, deed}
 use Rattle.rast_items.specs.Step.{Event, Send, Spawn, Call, Work, Delay}
+use Rattle.rast_items.specs.Renamed.{as_pid, as_link, as_body, as_proc}
 
 -- one event, the process after it, and the child that it makes
 pub record Done : Type 0 where
@@ -46,19 +47,20 @@ burst c p = burst_from c 32 p 0
 abbrev pub real : ℕ → ℕ → ℕ
 real made k = if nat_lt (stand_in 32) k then made + (2 ^ 32 - 1 - k) else k
 
+-- a process and its links under the real numbers
 abbrev pub real_pid : ℕ → Pid → Pid
-real_pid made p = pid_at (real made p.0)
+real_pid made = as_pid (real made)
 
 abbrev pub real_link : ℕ → Link → Link
-real_link made l = record l { session = real_pid made l.session }
+real_link made = as_link (real made)
 
 abbrev pub real_body : ℕ → Body → Body
-real_body made (Chan l) = Chan (real_link made l)
-real_body made b = b
+real_body made = as_body (real made)
 
 abbrev pub real_proc : ℕ → Proc → Proc
-real_proc made p = record p { pid = real_pid made p.pid; own = real_link made p.own; uses = map (λ u. (u.0, real_link made u.1)) p.uses }
+real_proc made = as_proc (real made)
 
+-- an event of a process that has its real number
 abbrev pub real_event : ℕ → Event → Event
 real_event made (Send pid link body moment q) = Send pid (real_link made link) (real_body made body) moment q
 real_event made (Spawn pid child d moment) = Spawn pid (real_pid made child) d moment

@@ -1,6 +1,6 @@
 // Whole checks of small programs, with answers worked out by hand.
 use crate::small::program;
-use rast_check::{CheckErr, Checked, check};
+use rast_check::{CheckErr, check, is_formed};
 use rast_index::Formula;
 use rast_terms::{Node, Program};
 use rast_types::{Equation, Ty};
@@ -21,11 +21,24 @@ fn equations(alloc: Global, right: Ty) -> Result<Items<Equation>, AllocError> {
     Ok(equations)
 }
 
-// The node or equation that is refused, with the premise.
-fn refused(answer: Result<Checked, (Program, CheckErr)>) -> Option<(u32, u8)> {
-    match answer {
-        Ok(_) => None,
-        Err((_program, why)) => place(&why),
+// Whether a program is formed and accepted.
+fn accepts(alloc: Global, program: Program) -> Result<bool, AllocError> {
+    if !is_formed(alloc, &program)? {
+        drop(program);
+        return Ok(false);
+    }
+    Ok(check(alloc, program).is_ok())
+}
+
+// The node or equation of a formed program that is refused, with the premise.
+fn refused(alloc: Global, program: Program) -> Result<Option<(u32, u8)>, AllocError> {
+    if !is_formed(alloc, &program)? {
+        drop(program);
+        return Ok(None);
+    }
+    match check(alloc, program) {
+        Ok(_) => Ok(None),
+        Err((_program, why)) => Ok(place(&why)),
     }
 }
 
@@ -41,7 +54,7 @@ fn place(why: &CheckErr) -> Option<(u32, u8)> {
 fn accepts_an_end_and_an_equation(rt: HostRuntime) -> Result<(), Fail> {
     let alloc = rt.alloc();
     let program = program(alloc, Node::Close { x: 0 }, equations(alloc, Ty::One)?)?;
-    assert!(rt; check(alloc, program).is_ok());
+    assert!(rt; accepts(alloc, program)?);
     Ok(())
 }
 
@@ -49,7 +62,7 @@ fn accepts_an_end_and_an_equation(rt: HostRuntime) -> Result<(), Fail> {
 fn names_the_false_premise(rt: HostRuntime) -> Result<(), Fail> {
     let alloc = rt.alloc();
     let program = program(alloc, Node::Impossible, Items::new(alloc))?;
-    assert_eq!(rt; refused(check(alloc, program)), Some((0, 1)));
+    assert_eq!(rt; refused(alloc, program)?, Some((0, 1)));
     Ok(())
 }
 
@@ -58,6 +71,6 @@ fn names_the_false_equation(rt: HostRuntime) -> Result<(), Fail> {
     let alloc = rt.alloc();
     let wrong = equations(alloc, Ty::Plus(Items::new(alloc)))?;
     let program = program(alloc, Node::Close { x: 0 }, wrong)?;
-    assert_eq!(rt; refused(check(alloc, program)), Some((1, 4)));
+    assert_eq!(rt; refused(alloc, program)?, Some((1, 4)));
     Ok(())
 }

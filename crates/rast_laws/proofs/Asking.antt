@@ -40,7 +40,7 @@ pub record Touches (g : Program) (j : Judgement) (nd : Node) (x : ℕ) (o : Opti
   pub shallow : j.ctx.vars + binders (head_at g j x) ≤ 16
   pub kind : (k : Kind) → kind_of (head_at g j x) ≡ Some k → want ≡ k
   pub ticks : Follows j.ctx.vars j.ctx.premises (is_equal (exposed_type (defs g) j.ctx.vars type).ticks nought)
-  pub rest : AllAsked g j (further g j nd (head_at g j x))
+  pub rest : AllAsked g j (further j nd (head_at g j x))
 
 made_facts : (deep small : Bool) (e f : Timed) → within deep small e ≡ Ok f → (deep ≡ false) × (f ≡ e)
 made_facts true small e f h = cc
@@ -51,14 +51,14 @@ asked_kind : (g : Program) (j : Judgement) (want : Kind) (o : Option Kind) (k : 
 asked_kind g j want None k h e = cc
 asked_kind g j want (Some f) k h e = let s : f ≡ k = cc in subst (λ y. want ≡ y) s (same_kinds want f h.0)
 
-touched : (g : Program) (j : Judgement) (nd : Node) (x : ℕ) (want : Kind) (a : Ty) (r : Result Timed Stop) → type_of j x ≡ Some a → made_exposed (defs g) j.ctx.vars a ≡ r → AllAsked g j (at_head g j nd want r) → Touches g j nd x (Some want)
+touched : (g : Program) (j : Judgement) (nd : Node) (x : ℕ) (want : Kind) (a : Ty) (r : Result Timed Stop) → type_of j x ≡ Some a → made_exposed (defs g) j.ctx.vars a ≡ r → AllAsked g j (at_head j nd want r) → Touches g j nd x (Some want)
 touched g j nd x want a (Err s) t m h = absurd h.0
 touched g j nd x want a (Ok e) t m h =
     let s : Timed = exposed_type (defs g) j.ctx.vars a in
     let f = made_facts (is_deep j.ctx.vars s.body) (is_small s.ticks && is_small_type s.body) s e m in
     let b : s.body ≡ head_at g j x = ap (λ o. (exposed_type (defs g) j.ctx.vars (or_one o)).body) (sym t) in
     let b' : e.body ≡ head_at g j x = ap (λ y. y.body) f.1 ∙ b in
-    let r = asked_right g j (head_is want (kind_of e.body)) ((3, Is (is_equal e.ticks nought)) ∷ further g j nd e.body) h in
+    let r = asked_right g j (head_is want (kind_of e.body)) ((3, Is (is_equal e.ticks nought)) ∷ further j nd e.body) h in
     record {
       want = want;
       want_is = refl;
@@ -66,9 +66,9 @@ touched g j nd x want a (Ok e) t m h =
       type_is = t;
       exposed = b;
       shallow = subst (λ y. j.ctx.vars + binders y ≤ 16) b (ltb-false 16 (j.ctx.vars + binders s.body) f.0);
-      kind = λ k q. asked_kind g j want (kind_of e.body) k (asked_left g j (head_is want (kind_of e.body)) ((3, Is (is_equal e.ticks nought)) ∷ further g j nd e.body) h) (ap kind_of b' ∙ q);
+      kind = λ k q. asked_kind g j want (kind_of e.body) k (asked_left g j (head_is want (kind_of e.body)) ((3, Is (is_equal e.ticks nought)) ∷ further j nd e.body) h) (ap kind_of b' ∙ q);
       ticks = subst (λ y. Follows j.ctx.vars j.ctx.premises (is_equal y.ticks nought)) f.1 r.0;
-      rest = subst (λ y. AllAsked g j (further g j nd y)) b' r.1;
+      rest = subst (λ y. AllAsked g j (further j nd y)) b' r.1;
     }
 
 at_touched : (g : Program) (j : Judgement) (nd : Node) (x : ℕ) (o : Option Kind) (a : Option Ty) → type_of j x ≡ a → AllAsked g j (at_channel g j nd x o a) → Touches g j nd x o

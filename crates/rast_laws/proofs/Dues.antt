@@ -1,6 +1,5 @@
 -- What is due on links as a run goes on.
-use Rattle.std.proofs.Common.{◌≡◌, ℕ, zero, suc, ◌≤◌, ◌<◌, ◌+◌, List, [], ◌∷◌, ◌++◌, length, take, Option, Some, slice_get, refl, sym, ap, ap₂, ◌∙◌, arith, length-append, append-nil}
-use Rattle.std.proofs.lemmas.List.{take-append-le, take_all}
+use Rattle.std.proofs.Common.{◌≡◌, ℕ, zero, suc, ◌≤◌, ◌<◌, ◌+◌, List, [], ◌∷◌, ◌++◌, length, Option, Some, slice_get, refl, sym, ap, ap₂, ◌∙◌, arith, length-append, append-nil}
 use Rattle.std.proofs.lemmas.Grind.{flat_map-append}
 use Rattle.rast_types.specs.Closed.{Table, View, view, closed}
 use Rattle.rast_index.specs.Linear.{whole}
@@ -41,32 +40,38 @@ settled_more es births more e l s = record {
   reached = omega (arith, s.reached, ap length (sent_more l.session es e), length-append (sent_at l.session es) (sent_by l.session e));
 }
 
+after_more : (t : Table) (v : Option View) (k : ℕ) (xs ys : List Sent) → k ≤ length xs → due_after t v k (xs ++ ys) ≡ due_after t v k xs
+after_more t v zero xs ys h = refl
+after_more t v (suc k) [] ys h = absurd (omega (arith, h))
+after_more t v (suc k) (x ∷ xs) ys h = after_more t (next_view t v x.entry.body x.moment) k xs ys (omega (arith, h))
+
 -- what is due there stays
 pub due_stays : (g : Program) (es : List Event) (births more : List Birth) (e : Event) (l : Link) → Settled es births l → due g (es ++ e ∷ []) (births ++ more) l ≡ due g es births l
 due_stays g es births more e l s =
-    ap₂ (λ b xs. due_after (defs g) (first_view g b) xs) (get_before births more l.session.0 s.began)
-    (ap (take l.index) (sent_more l.session es e) ∙ take-append-le l.index (sent_at l.session es) (sent_by l.session e) s.reached)
+    ap₂ (λ b xs. due_after (defs g) (first_view g b) l.index xs) (get_before births more l.session.0 s.began) (sent_more l.session es e)
+    ∙ after_more (defs g) (first_view g (slice_get births l.session.0)) l.index (sent_at l.session es) (sent_by l.session e) s.reached
 
-due_after_more : (t : Table) (v : Option View) (xs : List Sent) (x : Sent) → due_after t v (xs ++ x ∷ []) ≡ next_view t (due_after t v xs) x.entry.body x.moment
-due_after_more t v [] x = refl
-due_after_more t v (y ∷ xs) x = due_after_more t (next_view t v y.entry.body y.moment) xs x
+after_last : (t : Table) (v : Option View) (k : ℕ) (xs : List Sent) (x : Sent) → k ≡ length xs → due_after t v (suc k) (xs ++ x ∷ []) ≡ next_view t (due_after t v k xs) x.entry.body x.moment
+after_last t v zero [] x e = refl
+after_last t v zero (y ∷ xs) x e = absurd (omega (arith, e))
+after_last t v (suc k) [] x e = absurd (omega (arith, e))
+after_last t v (suc k) (y ∷ xs) x e = after_last t (next_view t v y.entry.body y.moment) k xs x (omega (arith, e))
 
 -- after a message was sent at the end of a session, this is due on the link after it
 pub due_sent : (g : Program) (es : List Event) (births more : List Birth) (e : Event) (m : Msg) → (sent_by m.link.session e ≡ mark m.link.session m) → m.link.session.0 < length births → m.link.index ≡ length (sent_at m.link.session es) → due g (es ++ e ∷ []) (births ++ more) (after_link m.link) ≡ next_view (defs g) (due g es births m.link) m.body m.moment
 due_sent g es births more e m q b n =
     let s : Pid = m.link.session in
     let xs : List Sent = sent_at s es in
+    let v : Option View = first_view g (slice_get births s.0) in
     let all : sent_at s (es ++ e ∷ []) ≡ xs ++ stamp m ∷ [] = sent_more s es e ∙ ap (λ y. xs ++ y) (q ∙ mark_same s m refl) in
-    let long : length (xs ++ stamp m ∷ []) ≤ m.link.index + 1 = omega (arith, length-append xs (stamp m ∷ []), n) in
-    let whole_new : take (m.link.index + 1) (sent_at s (es ++ e ∷ [])) ≡ xs ++ stamp m ∷ [] = ap (take (m.link.index + 1)) all ∙ take_all (m.link.index + 1) (xs ++ stamp m ∷ []) long in
-    let whole_old : take m.link.index xs ≡ xs = take_all m.link.index xs (omega (arith, n)) in
-    ap₂ (λ b ys. due_after (defs g) (first_view g b) ys) (get_before births more s.0 b) whole_new
-    ∙ (due_after_more (defs g) (first_view g (slice_get births s.0)) xs (stamp m)
-    ∙ ap (λ ys. next_view (defs g) (due_after (defs g) (first_view g (slice_get births s.0)) ys) m.body m.moment) (sym whole_old))
+    let next : m.link.index + 1 ≡ suc m.link.index = omega arith in
+    ap₂ (λ o ys. due_after (defs g) (first_view g o) (m.link.index + 1) ys) (get_before births more s.0 b) all
+    ∙ (ap (λ k. due_after (defs g) v k (xs ++ stamp m ∷ [])) next
+    ∙ after_last (defs g) v m.link.index xs (stamp m) n)
 
 -- what is due first on the session of a new process
 pub due_born : (g : Program) (es : List Event) (births : List Birth) (b : Birth) (d : Decl) (l : Link) → l ≡ link_at (length births) 0 → slice_get g.decls b.decl ≡ Some d → due g es (births ++ b ∷ []) l ≡ Some (view b.moment (closed d.gives (whole b.values)))
 due_born g es births b d l o q =
     let i : l.index ≡ 0 = ap (λ x. x.index) o in
     let s : l.session.0 ≡ length births = ap (λ x. x.session.0) o in
-    ap₂ (λ v n. due_after (defs g) (first_view g v) (take n (sent_at l.session es))) (get_at_end births b l.session.0 s) i ∙ ap (born_view b) q
+    ap₂ (λ v n. due_after (defs g) (first_view g v) n (sent_at l.session es)) (get_at_end births b l.session.0 s) i ∙ ap (born_view b) q

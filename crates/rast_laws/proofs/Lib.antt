@@ -13,6 +13,7 @@ pub mod Kept
 pub mod Balance
 pub mod Fitting
 pub mod Progress
+pub mod Polar
 pub mod Unstuck
 pub mod Theorem
 pub mod Judged

@@ -118,7 +118,7 @@ toward_of : (g : Program) (d : Link → Option View) (p : Proc) (other wait : Li
 toward_of g d p other wait f b e = record { due = f.yours; is = f.yours_is; toward = subst (λ o. IsToward o (if b then Client else Provider)) (sym f.kind_is) (ap (λ (x : Bool). if x then Client else Provider) e) }
 
 -- no process uses the link that it provides
-own_unused : (root : Link) (before after : List Item) (p : Proc) → IsConfig root (before ++ (P p ∷ after)) → held_by p.own p.uses ≡ 0
+pub own_unused : (root : Link) (before after : List Item) (p : Proc) → IsConfig root (before ++ (P p ∷ after)) → held_by p.own p.uses ≡ 0
 own_unused root [] after p c = none (held_by p.own p.uses) refl
   where
     none : (n : ℕ) → held_by p.own p.uses ≡ n → n ≡ 0

@@ -2,7 +2,7 @@
 use Rattle.std.proofs.Common.{◌≡◌, ℕ, ◌+◌, List, [], ◌∷◌, ◌++◌, length, Some, refl, sym, ap, ◌∙◌, subst, arith, append_assoc, append-nil}
 use Rattle.std.specs.List.{All}
 use Rattle.std.proofs.lemmas.List.Elements.{All-nil, All-cons}
-use Rattle.rast_items.specs.Items.{held}
+use Rattle.rast_items.specs.Items.{held, link_at}
 use Rattle.rast_items.specs.Deeds.{Code}
 use Rattle.rast_items.specs.Run.{State, IsRun, IsRunFrom, start_of, state_after, pid_of, born, ArePidsApart, work, sent_at, taken_at}
 use Rattle.rast_laws.specs.Typed.{due}
@@ -13,6 +13,8 @@ use Rattle.rast_order.proofs.View.{StepView, step_view}
 use Rattle.rast_order.proofs.Runs.{start_sound, prefix_entries}
 use Rattle.rast_order.proofs.Pids.{run_keeps_pids, step_pids}
 use Rattle.rast_laws.proofs.Fine.{AllFine, all_typed}
+use Rattle.rast_laws.proofs.Freely.{apart_fine}
+use Rattle.rast_laws.proofs.Polar.{polar}
 use Rattle.rast_laws.proofs.Lawful.{DeedLaw}
 use Rattle.rast_laws.proofs.Whole.{Whole}
 use Rattle.rast_laws.proofs.Kept.{step_whole}
@@ -76,6 +78,11 @@ sound_of c law main es st r =
     record {
       links = k.whole.sound.config;
       numbers = k.numbers;
+      made = k.whole.sound.below;
+      reached = k.whole.sound.queue.reach;
+      unmade = k.whole.sound.unsent;
+      apart = apart_fine c.program (due c.program es st.births) (link_at 0 0) st.items k.whole.fine k.whole.sound.config;
+      forwards = polar c law (due c.program es st.births) (length st.births) st.items k.whole.fine k.whole.sound.config;
       typed = all_typed c.program (due c.program es st.births) st.items k.whole.fine;
       sent = sends_typed c.program es st.births es k.sent;
       ordered = record { prefix = λ s. prefix_entries (taken_at s es) (sent_at s es) (k.whole.sound.queue.prefixes s); numbered = k.whole.sound.queue.numbered };

@@ -1,5 +1,5 @@
 -- Due views of links, messages that fit them, and well typed configurations.
-use Rattle.std.specs.Prelude.{◌≡◌, ℕ, ℤ, pos, if◌then◌else◌, List, [], ◌∷◌, length, take, Option, Some, None, slice_get, IsTrue, All}
+use Rattle.std.specs.Prelude.{◌≡◌, ℕ, zero, suc, ℤ, pos, if◌then◌else◌, List, [], ◌∷◌, length, Option, Some, None, slice_get, IsTrue, All}
 use Rattle.std.specs.List.{list_all}
 use Rattle.rast_index.specs.Linear.{value, whole}
 use Rattle.rast_index.specs.Truth.{truth}
@@ -48,9 +48,11 @@ abbrev pub next_view : Table → Option View → Body → ℕ → Option View
 next_view t None b m = None
 next_view t (Some v) b m = view_some m (part_by (head t v) (selected b))
 
-abbrev pub due_after : Table → Option View → List Sent → Option View
-due_after t v [] = v
-due_after t v (x ∷ xs) = due_after t (next_view t v x.entry.body x.moment) xs
+-- the view that is led on by so many messages; there is none behind a message that wasn't sent
+abbrev pub due_after : Table → Option View → ℕ → List Sent → Option View
+due_after t v zero xs = v
+due_after t v (suc k) [] = None
+due_after t v (suc k) (x ∷ xs) = due_after t (next_view t v x.entry.body x.moment) k xs
 
 -- the view with which a session begins
 abbrev pub born_view : Birth → Option Decl → Option View
@@ -61,9 +63,10 @@ abbrev pub first_view : Program → Option Birth → Option View
 first_view g None = None
 first_view g (Some b) = born_view b (slice_get g.decls b.decl)
 
--- the due view of a link after a run
+-- the due view of a link after a run: behind as many messages of its session as its number says
 abbrev pub due : Program → List Event → List Birth → Link → Option View
-due g es births l = due_after (defs g) (first_view g (slice_get births l.session.0)) (take l.index (sent_at l.session es))
+due g es births l =
+    due_after (defs g) (first_view g (slice_get births l.session.0)) l.index (sent_at l.session es)
 
 -- ---- messages
 

@@ -3,3 +3,4 @@ pub mod Fresh
 pub mod Counting
 pub mod Scoping
 pub mod Finding
+pub mod Children

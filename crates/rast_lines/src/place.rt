@@ -1,6 +1,5 @@
 // Where a node stands.
-ghost use Rattle.std.specs.Prelude.{◌≡◌, ◌==◌, ℕ, IfOk, List, map, reverse, slice_get};
-ghost use Rattle.std.specs.List.{list_any};
+ghost use Rattle.std.specs.Prelude.{◌≡◌, ℕ, IfOk, List, reverse, slice_get};
 ghost use Rattle.rast_lines.specs.Places as places;
 ghost use Rattle.rast_rules.specs.Plan.{IsForest, IsBody};
 
@@ -81,33 +80,8 @@ fn is_below(program: &Program, node: u32, number: u32) -> bool
 fn is_child(node: u32, parent: &Node) -> bool
     ensures { result ≡ places.is_child node parent.now }
 {
-    match parent {
-        Node::Label { next, .. } => *next == node,
-        Node::Case { branches, .. } => is_end(node, branches.as_slice()),
-        Node::Send { next, .. } => *next == node,
-        Node::Recv { next, .. } => *next == node,
-        Node::Index { next, .. } => *next == node,
-        Node::Bind { next, .. } => *next == node,
-        Node::Assert { next, .. } => *next == node,
-        Node::Assume { next, .. } => *next == node,
-        Node::Pay { next, .. } => *next == node,
-        Node::Get { next, .. } => *next == node,
-        Node::Close { .. } => false,
-        Node::Wait { next, .. } => *next == node,
-        Node::Forward { .. } => false,
-        Node::Spawn { next, .. } => *next == node,
-        Node::Call { .. } => false,
-        Node::Impossible => false,
-        Node::Work { next, .. } => *next == node,
-        Node::Delay { next, .. } => *next == node,
-    }
-}
-
-fn is_end(node: u32, branches: &[(u32, u32)]) -> bool
-    ensures { result ≡ list_any (λ m. m == node) (map (λ b. b.1) branches.now) }
-{
-    for (_, end) in branches {
-        if *end == node {
+    for index in 0..parent.kid_count() {
+        if parent.kid(index) == node {
             return true;
         }
     }

@@ -1,8 +1,9 @@
 -- Steps of the pass, as the code takes them.
-use Rattle.std.proofs.Common.{arith, ◌≡◌, ◌∙◌, ℕ, ◌+◌, ◌^◌, ◌<◌, ◌≤◌, Bool, true, false, List, [], ◌∷◌, drop, length, get_or, map, Option, Some, None, refl, sym, ap}
+use Rattle.std.proofs.Common.{arith, ◌≡◌, ◌∙◌, ℕ, ◌+◌, ◌^◌, ◌<◌, ◌≤◌, Bool, true, false, List, [], ◌∷◌, drop, length, get_or, Option, Some, None, refl, sym, ap}
 use Rattle.std.specs.Prelude.{slice_get, is_some}
 use Rattle.std.specs.List.{AllByRecursion}
-use Rattle.std.proofs.lemmas.List.{drop_all, drop_more, get_or_default}
+use Rattle.std.proofs.lemmas.List.{drop_all, drop_more}
+use Rattle.std.proofs.lemmas.Option.{get_or_from_slice_get, slice_get_within}
 use Rattle.rast_terms.specs.Nodes.{kids}
 use Rattle.rast_terms.specs.declared.node.Node.{Node}
 use Rattle.rast_terms.specs.declared.node.Node.TheVariants as node
@@ -48,14 +49,13 @@ module _ {X : Type 0} (node : X → ℕ) (scope : X → Scope) (xs : List X) (i 
 pub place_end : {X : Type 0} (node : X → ℕ) (scope : X → Scope) (xs : List X) (i : ℕ) (s : Places) (p : Option Places) → length xs ≤ i → all_placed node scope s (drop i xs) ≡ p → p ≡ Some s
 place_end {X} node scope xs i s p past h = sym h ∙ ap (all_placed node scope s) (drop_all i xs past)
 
-after_same : (p : Option Places) (f h : Places → Option Places) → ((t : Places) → f t ≡ h t) → after p f ≡ after p h
-after_same None f h e = refl
-after_same (Some t) f h e = e t
+-- a child that is placed, or that has a place already
+module _ (c : Scope) (ks : List ℕ) (i k : ℕ) (there : slice_get ks i ≡ Some k) (s t : Places) (b : Bool) (p : Option Places) (put : Puts b t (placed s c k)) (inv : all_placed (λ (m : ℕ). m) (λ m. c) s (drop i ks) ≡ p) where
+  pub kid_more : b ≡ true → all_placed (λ (m : ℕ). m) (λ m. c) t (drop (i + 1) ks) ≡ p
+  kid_more e = place_more (λ (m : ℕ). m) (λ m. c) ks i k (slice_get_within ks i k there) (sym (get_or_from_slice_get ks i k k there)) s t p (puts_true b t (placed s c k) put e) inv
 
--- the children of a case
-pub placed_map : {X : Type 0} (f : X → ℕ) (c : Scope) (s : Places) (xs : List X) → all_placed (λ m. m) (λ m. c) s (map f xs) ≡ all_placed f (λ x. c) s xs
-placed_map {X} f c s [] = refl
-placed_map {X} f c s (x ∷ xs) = after_same (placed s c (f x)) (λ t. all_placed (λ m. m) (λ m. c) t (map f xs)) (λ t. all_placed f (λ x. c) t xs) (λ t. placed_map f c t xs)
+  pub kid_stop : b ≡ false → p ≡ None
+  kid_stop e = place_stop (λ (m : ℕ). m) (λ m. c) ks i k (slice_get_within ks i k there) (sym (get_or_from_slice_get ks i k k there)) s p (puts_false b t (placed s c k) put e) inv
 
 -- ---- few variables and channels
 
@@ -125,7 +125,3 @@ visit_end g nds i s p past h = sym h ∙ ap (all_visited g s i) (drop_all i nds 
 pub puts_some : (b : Bool) (t : Places) (p : Option Places) → Puts b t p → b ≡ is_some p
 puts_some true t p h = sym (ap is_some h)
 puts_some false t p h = sym (ap is_some h)
-
--- a branch that has a place already
-pub branch_stop : (bs : List (ℕ × ℕ)) (i : ℕ) (d : ℕ × ℕ) (c : Scope) (s t : Places) (b : Bool) (p : Option Places) → i < length bs → Puts b t (placed s c (get_or bs i d).1) → b ≡ false → all_placed (λ (e : ℕ × ℕ). e.1) (λ e. c) s (drop i bs) ≡ p → p ≡ None
-branch_stop bs i d c s t b p lt h e k = place_stop (λ (e : ℕ × ℕ). e.1) (λ e. c) bs i (get_or bs i d) lt (get_or_default bs i d (get_or bs i d) lt) s p (puts_false b t (placed s c (get_or bs i d).1) h e) k

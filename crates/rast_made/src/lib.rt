@@ -12,4 +12,3 @@ mod scope;
 mod tables;
 
 pub use program::well_made;
-pub use scope::Scope;

@@ -1,5 +1,5 @@
 // The place of each node, and the scope in which it stands there.
-ghost use Rattle.std.specs.Prelude.{◌≡◌, ◌<◌, ◌≤◌, ◌∷◌, ◌+◌, ◌^◌, [], map, slice_get, Some, IfOk, IsTrue};
+ghost use Rattle.std.specs.Prelude.{◌≡◌, ◌<◌, ◌≤◌, ◌+◌, ◌^◌, slice_get, Some, IfOk, IsTrue};
 ghost use Rattle.rast_terms.specs.Nodes as nodes;
 ghost use Rattle.rast_made.specs.Made as made;
 ghost use Rattle.rast_made.specs.WellMade.{bound_channels, bound_variables};
@@ -144,44 +144,12 @@ fn bound_channels(node: &Node) -> u128
 fn place_kids(node: &Node, scope: Scope, places: &mut Items<Option<Scope>>) -> bool
     ensures { made.Puts result places.new (made.all_placed (λ m. m) (λ m. scope) places.old (nodes.kids node.now)) }
 {
-    match node {
-        Node::Case { branches, .. } => place_branches(branches.as_slice(), scope, places),
-        Node::Close { .. } => true,
-        Node::Forward { .. } => true,
-        Node::Call { .. } => true,
-        Node::Impossible => true,
-        Node::Label { next, .. } => place_next(*next, scope, places),
-        Node::Send { next, .. } => place_next(*next, scope, places),
-        Node::Recv { next, .. } => place_next(*next, scope, places),
-        Node::Index { next, .. } => place_next(*next, scope, places),
-        Node::Bind { next, .. } => place_next(*next, scope, places),
-        Node::Assert { next, .. } => place_next(*next, scope, places),
-        Node::Assume { next, .. } => place_next(*next, scope, places),
-        Node::Pay { next, .. } => place_next(*next, scope, places),
-        Node::Get { next, .. } => place_next(*next, scope, places),
-        Node::Wait { next, .. } => place_next(*next, scope, places),
-        Node::Spawn { next, .. } => place_next(*next, scope, places),
-        Node::Work { next, .. } => place_next(*next, scope, places),
-        Node::Delay { next, .. } => place_next(*next, scope, places),
-    }
-}
-
-fn place_branches(branches: &[(u32, u32)], scope: Scope, places: &mut Items<Option<Scope>>) -> bool
-    ensures { made.Puts result places.new (made.all_placed (λ m. m) (λ m. scope) places.old (map (λ b. b.1) branches.now)) }
-{
-    for branch in branches {
-        if !place(branch.1, scope, places) {
+    for index in 0..node.kid_count() {
+        if !place(node.kid(index), scope, places) {
             return false;
         }
     }
     true
-}
-
-// The one child of a node.
-fn place_next(node: u32, scope: Scope, places: &mut Items<Option<Scope>>) -> bool
-    ensures { made.Puts result places.new (made.all_placed (λ m. m) (λ m. scope) places.old (node ∷ [])) }
-{
-    place(node, scope, places)
 }
 
 // Gives a node that has no place this scope.

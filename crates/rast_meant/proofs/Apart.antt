@@ -1,18 +1,17 @@
 -- What an answer that is a value says of the answers that it was made from.
-use Rattle.std.proofs.Common.{◌≡◌, Bool, true, false, if◌then◌else◌, List, [], ◌∷◌, map, length, Ok, Err, suc, refl, ap, subst}
+use Rattle.std.proofs.Common.{◌≡◌, Bool, true, false, if◌then◌else◌, List, [], ◌∷◌, map, length, Result, Ok, Err, suc, refl, ap, subst}
 use Rattle.std.specs.List.{AllByRecursion}
-use Rattle.rast_resolve.specs.declared.fault.NameErr.{NameErr}
 use Rattle.rast_resolve.specs.Answers.{Answer, ◌>>=◌, each}
 
 -- an answer is this value
-abbrev pub Gave : {X : Type 0} → Answer X → X → Type 0
-Gave {X} a x = a ≡ Ok x
+abbrev pub Gave : {X E : Type 0} → Result X E → X → Type 0
+Gave {X} {E} a x = a ≡ Ok x
 
-pub no_value : {X : Type 0} (e : NameErr) (x : X) → Gave (Err e) x → ⊥
-no_value {X} e x h = cc
+pub no_value : {X E : Type 0} (e : E) (x : X) → Gave (Err e) x → ⊥
+no_value {X} {E} e x h = cc
 
-pub same : {X : Type 0} (x y : X) → Gave (Ok x) y → x ≡ y
-same {X} x y h = cc
+pub same : {X E : Type 0} (x y : X) → Gave {X = X} {E = E} (Ok x) y → x ≡ y
+same {X} {E} x y h = cc
 
 -- a value of both is one of each
 pub both : {X Y : Type 0} (a : Answer X) (f : X → Answer Y) (y : Y) → Gave (a >>= f) y → (x : X) × Gave a x × Gave (f x) y
@@ -25,14 +24,14 @@ made {X} {Y} (Ok x) f y h = (x, refl, same (f x) y h)
 made {X} {Y} (Err e) f y h = absurd (no_value e y h)
 
 -- where a test that holds is a fault, it doesn't hold
-pub unless : {X : Type 0} (b : Bool) (e : NameErr) (a : Answer X) (x : X) → Gave (if b then Err e else a) x → (b ≡ false) × Gave a x
-unless {X} true e a x h = absurd (no_value e x h)
-unless {X} false e a x h = (refl, h)
+pub unless : {X E : Type 0} (b : Bool) (e : E) (a : Result X E) (x : X) → Gave (if b then Err e else a) x → (b ≡ false) × Gave a x
+unless {X} {E} true e a x h = absurd (no_value e x h)
+unless {X} {E} false e a x h = (refl, h)
 
 -- where a test that doesn't hold is a fault, it holds
-pub where_true : {X : Type 0} (b : Bool) (e : NameErr) (a : Answer X) (x : X) → Gave (if b then a else Err e) x → (b ≡ true) × Gave a x
-where_true {X} true e a x h = (refl, h)
-where_true {X} false e a x h = absurd (no_value e x h)
+pub where_true : {X E : Type 0} (b : Bool) (e : E) (a : Result X E) (x : X) → Gave (if b then a else Err e) x → (b ≡ true) × Gave a x
+where_true {X} {E} true e a x h = (refl, h)
+where_true {X} {E} false e a x h = absurd (no_value e x h)
 
 -- the values of a list of answers
 pub each_gave : {X Y : Type 0} (P : Y → Type 0) (f : X → Answer Y) (xs : List X) (ys : List Y) → ((x : X) (y : Y) → Gave (f x) y → P y) → Gave (each (map f xs)) ys → AllByRecursion P ys × (length ys ≡ length xs)

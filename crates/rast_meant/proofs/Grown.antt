@@ -27,7 +27,7 @@ use Rattle.rast_print.proofs.Induction.{Such, each_proc}
 use Rattle.rast_resolve.specs.declared.fault.NameErr.TheVariants as fault
 use Rattle.rast_resolve.specs.Answers.{◌>>=◌}
 use Rattle.rast_resolve.specs.Scopes.{Text, Texts, is_among, place_of, newest_of, number_in, at_place, or_else}
-use Rattle.rast_resolve.specs.Linears.{linear_of, linears_of}
+use Rattle.rast_resolve.specs.Written.{linear_of, linears_of}
 use Rattle.rast_resolve.specs.Bodies.{channel_at, channel_of, channels_of, with_channel, with_variable, refs_of, is_process, decl_number, declared, is_counted, callee_of, step_of, steps_of, Nodes, Branches, branches_of, end_step, branch_step, proc_step, nodes_of, end_of, branch_of}
 use Rattle.rast_resolve.specs.Names.{step_names, end_names, branch_names, proc_names, names_in_term, names_in_end, names_in_branch, end_size, branch_size, proc_size, size_of, size_of_end, size_of_branch}
 use Rattle.rast_meant.proofs.Forests.{Root, below, Forest, none, tree}

@@ -12,3 +12,4 @@ pub mod Adding
 pub mod Shapes
 pub mod Holding
 pub mod Meant
+pub mod Few

@@ -35,8 +35,7 @@ use Rattle.rast_print.proofs.Induction.{Such, each_type}
 use Rattle.rast_resolve.specs.declared.fault.NameErr.TheVariants as fault
 use Rattle.rast_resolve.specs.Answers.{◌>>=◌}
 use Rattle.rast_resolve.specs.Scopes.{Text, Texts, is_among, place_of, number_in, at_place}
-use Rattle.rast_resolve.specs.Linears.{linear_of, linears_of}
-use Rattle.rast_resolve.specs.Formulas.{formula_of}
+use Rattle.rast_resolve.specs.Written.{linear_of, linears_of, formula_of}
 use Rattle.rast_resolve.specs.Types as types
 use Rattle.rast_resolve.specs.Types.{In, Labels, named_at, named, choices, prefixed, type_of, atom_of, choice_of}
 use Rattle.rast_resolve.specs.Names as names

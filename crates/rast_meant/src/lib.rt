@@ -1,6 +1,9 @@
-//! The program that the names of a file of the grammar resolve to is well made, as a function without code whose contract is the law.
+//! The program that the names of a file of the grammar resolve to is well made, and within limits, as functions without code whose
+//! contracts are the laws.
 #![tactic(auto)]
 
 mod law;
+mod limits;
 
 pub use law::meant_law;
+pub use limits::limits_law;

@@ -1,8 +1,6 @@
 pub mod Places
 pub mod Chains
-pub mod Lengths
-pub mod LinearLayers
-pub mod FormulaLayers
+pub mod Faults
 pub mod TypeLayers
 pub mod Weights
 pub mod TermLayers

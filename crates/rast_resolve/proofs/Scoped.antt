@@ -6,7 +6,7 @@ use Rattle.rast_ast.specs.declared.process.Step.TheVariants as step
 use Rattle.rast_terms.specs.declared.node.Node.{Node}
 use Rattle.rast_resolve.specs.Answers.{Answer, ◌>>=◌}
 use Rattle.rast_resolve.specs.Scopes.{Text, Texts, Known}
-use Rattle.rast_resolve.specs.Linears.{linear_of}
+use Rattle.rast_resolve.specs.Written.{linear_of}
 use Rattle.rast_resolve.specs.Bodies.{Place, step_of, steps_of, channel_of, refs_of, callee_of, with_channel, with_variable}
 
 pub record Extends (p q : Place) : Type 0 where

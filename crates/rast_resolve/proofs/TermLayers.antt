@@ -13,7 +13,7 @@ use Rattle.rast_resolve.specs.declared.fault.NameErr.{NameErr}
 use Rattle.rast_resolve.specs.Answers.{Answer, ◌>>=◌, Gives, Fails}
 use Rattle.rast_resolve.specs.Scopes.{Text, Known}
 use Rattle.rast_resolve.specs.Bodies.{Place, Nodes, nodes_of, term_nodes, steps_of, end_of, branch_of, branches_of, channel_of, end_step, branch_step, proc_step}
-use Rattle.rast_resolve.proofs.Chains.{made_fails}
+use Rattle.rast_resolve.proofs.Chains.{made_ok, made_fails}
 
 module _ (known : Known) (item : Text) (p : Place) (n : ℕ) where
   pub case_at : (x : Text) (b : Branch) (bs : List Branch) → end_of known item (ending.Case x b bs) p n ≡
@@ -28,13 +28,19 @@ module _ (known : Known) (item : Text) (p : Place) (n : ℕ) where
       ap (λ z. end_of known item z p n) is ∙ case_at x b bs ∙ rw same refl in
       subst (λ a. Gives a r) (sym f) h
 
-  -- a fault of the end is that of the steps and the end
-  pub term_stops : (ss : List Step) (e : End) (ns : List Node) (q : Place) (k l : ℕ) (g : NameErr) → steps_of known item ss p n ≡ Ok (ns, q) → k ≡ n + l → l ≡ length ss → Fails (end_of known item e q k) g → Fails (term_nodes known item ss e p n) g
-  term_stops ss e ns q k l g is more many h =
-      let whole : term_nodes known item ss e p n ≡ (end_of known item e q k >>= λ m. Ok (ns ++ m)) =
-      ap (λ (a : Answer (List Node × Place)). a >>= λ r. end_of known item e r.1 (n + length ss) >>= λ m. Ok (r.0 ++ m)) is
-      ∙ ap (λ j. end_of known item e q j >>= λ m. Ok (ns ++ m)) (sym (more ∙ ap (λ j. n + j) many)) in
-      made_fails _ (end_of known item e q k) (λ m. ns ++ m) g whole h
+  module _ (ss : List Step) (e : End) (ns : List Node) (q : Place) (k l : ℕ) (is : steps_of known item ss p n ≡ Ok (ns, q)) (more : k ≡ n + l) (many : l ≡ length ss) where
+    term_on : term_nodes known item ss e p n ≡ (end_of known item e q k >>= λ m. Ok (ns ++ m))
+    term_on =
+        ap (λ (a : Answer (List Node × Place)). a >>= λ r. end_of known item e r.1 (n + length ss) >>= λ m. Ok (r.0 ++ m)) is
+        ∙ ap (λ j. end_of known item e q j >>= λ m. Ok (ns ++ m)) (sym (more ∙ ap (λ j. n + j) many))
+
+    -- the nodes of the steps, and then those of the end
+    pub term_made : (ms all : List Node) → end_of known item e q k ≡ Ok ms → all ≡ ns ++ ms → term_nodes known item ss e p n ≡ Ok all
+    term_made ms all h same = made_ok _ (end_of known item e q k) (λ m. ns ++ m) ms all term_on h same
+
+    -- a fault of the end is that of the steps and the end
+    pub term_stops : (g : NameErr) → Fails (end_of known item e q k) g → Fails (term_nodes known item ss e p n) g
+    term_stops g h = made_fails _ (end_of known item e q k) (λ m. ns ++ m) g term_on h
 
   pub proc_gives : (t : Proc) (ss : List Step) (e : End) (r : Answer (List Node)) → ss ≡ t.steps → e ≡ t.end → Gives (term_nodes known item ss e p n) r → Gives (nodes_of known item t p n) r
   proc_gives t ss e r same also h =

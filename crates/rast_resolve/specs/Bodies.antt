@@ -18,7 +18,7 @@ use Rattle.rast_ast.specs.declared.process.End.TheFolds.{fold-Proc, fold-End, fo
 use Rattle.rast_resolve.specs.declared.fault.NameErr.TheVariants as fault
 use Rattle.rast_resolve.specs.Answers.{Answer, ◌>>=◌, each}
 use Rattle.rast_resolve.specs.Scopes.{Known, Counts, Text, Texts, is_among, place_of, newest_of, number_in, at_place, or_else}
-use Rattle.rast_resolve.specs.Linears.{linear_of, linears_of}
+use Rattle.rast_resolve.specs.Written.{linear_of, linears_of}
 pub use Rattle.rast_resolve.specs.declared.place.Place.{Place}
 pub use Rattle.rast_resolve.specs.declared.callees.Callee.{Callee}
 

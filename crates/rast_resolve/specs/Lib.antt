@@ -2,8 +2,7 @@ pub mod Answers
 pub mod Lists
 pub mod Maps
 pub mod Scopes
-pub mod Linears
-pub mod Formulas
+pub mod Written
 pub mod Types
 pub mod Bodies
 pub mod Names

@@ -23,8 +23,7 @@ use Rattle.rast_resolve.specs.declared.tables.Tables.{Tables}
 use Rattle.rast_resolve.specs.declared.program.Resolved.{Resolved}
 use Rattle.rast_resolve.specs.Answers.{Answer, ◌>>=◌}
 use Rattle.rast_resolve.specs.Scopes.{Text, Texts, Known, Counts, is_among, place_of, number_in}
-use Rattle.rast_resolve.specs.Linears.{linear_of}
-use Rattle.rast_resolve.specs.Formulas.{formula_of}
+use Rattle.rast_resolve.specs.Written.{linear_of, formula_of}
 use Rattle.rast_resolve.specs.Types.{type_of}
 use Rattle.rast_resolve.specs.Bodies.{nodes_of, refs_of, is_counted, declared, body_start}
 use Rattle.rast_resolve.specs.declared.gather.Sought.TheVariants as sought

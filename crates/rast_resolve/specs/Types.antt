@@ -14,8 +14,7 @@ use Rattle.rast_ast.specs.declared.type_expr.Prefix.TheVariants as prefix
 use Rattle.rast_resolve.specs.declared.fault.NameErr.TheVariants as fault
 use Rattle.rast_resolve.specs.Answers.{Answer, ◌>>=◌}
 use Rattle.rast_resolve.specs.Scopes.{Text, Texts, Known, is_among, place_of, number_in, at_place}
-use Rattle.rast_resolve.specs.Linears.{linear_of, linears_of}
-use Rattle.rast_resolve.specs.Formulas.{formula_of}
+use Rattle.rast_resolve.specs.Written.{linear_of, linears_of, formula_of}
 
 -- what a part gives where these variables are in scope
 abbrev pub In : Type 0 → Type 0

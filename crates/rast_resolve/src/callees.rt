@@ -6,8 +6,8 @@ ghost use Rattle.rast_resolve.specs.Bodies.{ref_of, refs_of, is_process, is_coun
 use crate::bindings::Bindings;
 use crate::fault::{NameErr, arity, unknown};
 use crate::known::{Counts, Known};
-use crate::linears::linears;
 use crate::place::Place;
+use crate::written::linears;
 use rast_ast::{By, Lin as Written, Name, Ref as WrittenRef};
 use rast_index::Lin;
 use rast_types::Ref;

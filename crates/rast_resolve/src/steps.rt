@@ -3,14 +3,14 @@ ghost use Rattle.std.specs.Prelude.{◌≡◌, false, Ok, IfOk, OnOk};
 ghost use Rattle.rast_terms.specs.declared.node.Node.TheVariants as node;
 ghost use Rattle.rast_resolve.specs.Answers.{Leaves, ◌>>=◌ as ◌then◌};
 ghost use Rattle.rast_resolve.specs.Scopes.{number_in};
-ghost use Rattle.rast_resolve.specs.Linears.{linear_of};
+ghost use Rattle.rast_resolve.specs.Written.{linear_of};
 ghost use Rattle.rast_resolve.specs.Bodies.{channel_of, refs_of, with_channel, with_variable, step_of};
 
 use crate::callees::{Callee, called, references};
 use crate::fault::NameErr;
 use crate::known::Known;
-use crate::linears::linear;
 use crate::place::Place;
+use crate::written::linear;
 use rast_ast::{By, Lin as Written, Name, Step};
 use rast_terms::Node;
 use std::alloc::{AllocError, Global};

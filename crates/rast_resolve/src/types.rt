@@ -1,18 +1,29 @@
 // Types.
-ghost use Rattle.std.specs.Prelude.{◌≡◌, ◌++◌, ◌∷◌, [], map, OnOk};
+ghost use Rattle.std.specs.Prelude.{◌≡◌, ◌++◌, ◌∷◌, [], map, pos, OnOk};
+ghost use Rattle.rast_index.specs.Linear.{fixed};
 ghost use Rattle.rast_resolve.specs.Answers.{Gives};
 ghost use Rattle.rast_resolve.specs.Types.{named, type_of, atom_of, choice_of, choices, prefixed};
 
 use crate::bindings::Bindings;
 use crate::fault::{NameErr, arity, twice, unknown};
-use crate::formulas::formula;
 use crate::index::Index;
 use crate::known::{Known, narrow};
-use crate::linears::{constant, linear, linears};
+use crate::written::{formula, linear, linears};
 use rast_ast::{Atom, Choice, Lin, Name, Prefix, TypeExpr};
+use rast_index::Lin as Linear;
 use rast_types::Ty;
 use sqlite_items::{Boxed, Items};
 use std::alloc::Global;
+
+// One tick.
+fn one_tick() -> Linear
+    ensures { result ≡ fixed (pos 1) }
+{
+    Linear {
+        constant: 1,
+        coefficient: [0; 16],
+    }
+}
 
 // A definition by its name, with its arguments.
 fn named(
@@ -110,7 +121,7 @@ fn prefixed(
             let p = linear(alloc, item, false, vars, l)?;
             Ok(Ty::Gets(p, boxed(alloc, known, item, vars, body)?))
         }
-        Prefix::NextOne => Ok(Ty::Next(constant(1), boxed(alloc, known, item, vars, body)?)),
+        Prefix::NextOne => Ok(Ty::Next(one_tick(), boxed(alloc, known, item, vars, body)?)),
         Prefix::Next(l) => {
             let t = linear(alloc, item, false, vars, l)?;
             Ok(Ty::Next(t, boxed(alloc, known, item, vars, body)?))

@@ -233,12 +233,9 @@ start_judged g k d r j there h is = at_root k d j there (subst (IsStart (limited
 pub start_made : (g : Program) → IsAccepted g → (k : ℕ) (d : Decl) (r : Result Judgement RuleErr) (s : Stop) → slice_get g.decls k ≡ Some d → IsStart (limited (root k d)) r → r ≡ Err (Limit s) → ⊥
 start_made g a k d r s there h is = subst IsMade (subst (IsStart (limited (root k d))) is h) (a.roots k d there)
 
--- all children of a node
-pub kids_all : (g : Program) (j : Judgement) (nd : Node) (cs : List (Result Judgement Stop)) (ks : List ℕ) → cs ≡ children g j nd → ks ≡ kids nd → length cs ≡ length ks
-kids_all g j nd cs ks e f = ap length e ∙ as_many g j nd ∙ ap length (sym f)
-
-pub kid_judged : (g : Program) (n : ℕ) (j : Judgement) (nd : Node) (cs : List (Result Judgement Stop)) (ks : List ℕ) (i m : ℕ) (c : Judgement) → IsJudgement g n j → slice_get g.nodes n ≡ Some nd → cs ≡ children g j nd → ks ≡ kids nd → slice_get ks i ≡ Some m → slice_get cs i ≡ Some (Ok c) → IsJudgement g m c
-kid_judged g n j nd cs ks i m c h s e f k d = at_child n j nd i m c h s (ap (λ zs. slice_get zs i) (sym f) ∙ k) (ap (λ zs. slice_get zs i) (sym e) ∙ d)
+-- the children of a node, as they were made
+pub kid_judged : (g : Program) (n : ℕ) (j : Judgement) (nd : Node) (cs : List (Result Judgement Stop)) (i m : ℕ) (c : Judgement) → IsJudgement g n j → slice_get g.nodes n ≡ Some nd → cs ≡ children g j nd → slice_get (kids nd) i ≡ Some m → slice_get cs i ≡ Some (Ok c) → IsJudgement g m c
+kid_judged g n j nd cs i m c h s e k d = at_child n j nd i m c h s k (ap (λ zs. slice_get zs i) (sym e) ∙ d)
 
 pub kid_made : (g : Program) → IsAccepted g → (n : ℕ) (j : Judgement) (nd : Node) (cs : List (Result Judgement Stop)) (i : ℕ) (s : Stop) → IsJudgement g n j → slice_get g.nodes n ≡ Some nd → cs ≡ children g j nd → slice_get cs i ≡ Some (Err s) → ⊥
 kid_made g a n j nd cs i s h t e d = child_made g a n j nd i s h t (ap (λ zs. slice_get zs i) (sym e) ∙ d)

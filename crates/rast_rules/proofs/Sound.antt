@@ -54,7 +54,7 @@ true_is_false : (b : Bool) → b ≡ true → b ≡ false → ⊥
 true_is_false b e f = cc
 
 module _ (g : Program) (j : Judgement) (n : Node) where
-  head_stops : (want : Kind) (m : Result Timed Stop) (s : Stop) → list_any asked_stops (at_head g j n want m) ≡ false → m ≡ Err s → ⊥
+  head_stops : (want : Kind) (m : Result Timed Stop) (s : Stop) → list_any asked_stops (at_head j n want m) ≡ false → m ≡ Err s → ⊥
   unfolding asked_stops
   head_stops want (Ok e) s h f = cc
   head_stops want (Err t) s h f = cc

@@ -14,8 +14,8 @@ use Rattle.rast_rules.proofs.Sound.{IsKept}
 use Rattle.rast_rules.proofs.Turned.{changed_none, changed_wider, without_none}
 
 -- the draft of a judgement with another type at one channel
-pub goes_on_all : (j : Judgement) (x : ℕ) (a : Ty) (d : Draft) → d ≡ drafted (with_type (without j []) x a) → d ≡ drafted (with_type j x a)
-goes_on_all j x a d e = e ∙ ap (λ k. drafted (with_type k x a)) (without_none j)
+pub with_part_all : (j : Judgement) (x : ℕ) (a : Ty) (d : Draft) → d ≡ drafted (with_type (without j []) x a) → d ≡ drafted (with_type j x a)
+with_part_all j x a d e = e ∙ ap (λ k. drafted (with_type k x a)) (without_none j)
 
 pub changes_at : (j : Judgement) (x : ℕ) (a : Ty) (d : Draft) → d ≡ drafted (with_type (changed j.ctx.vars None [] j) x a) → d ≡ drafted (with_type j x a)
 changes_at j x a d e = e ∙ ap (λ k. drafted (with_type k x a)) (changed_none j)

@@ -220,22 +220,22 @@ abbrev pub has_branch : List (ℕ × ℕ) → ℕ → ℕ × Asked
 has_branch bs l = (4, Shaped (is_some (find_key l bs)) (why.Label l))
 
 -- what is asked further of a node whose channel has this head
-abbrev pub further : Program → Judgement → Node → Ty → Askings
-further g j (node.Label x l n) h = label_asked (choices_of h) l ∷ []
-further g j (node.Case x bs) h = map (λ b. label_asked (choices_of h) b.0) bs ++ map (λ t. has_branch bs t.0) (choices_of h)
-further g j (node.Send x w rs n) h = linear 4 w (is_some (used_type j w) && not (w == x)) ∷ (5, Alike (or_one (used_type j w)) (first_of_pair h) None) ∷ []
-further g j (node.Index x e n) h = (4, Is (nonneg e)) ∷ []
-further g j (node.Assert x n) h = (4, Is (formula_of h)) ∷ []
-further g j (node.Pay x n) h = (4, Is (is_at_least j.potential (amount_of h))) ∷ []
-further g j (node.Close x) h = none_left 4 j.uses ++ (5, Is (is_equal j.potential nought)) ∷ []
-further g j n h = []
+abbrev pub further : Judgement → Node → Ty → Askings
+further j (node.Label x l n) h = label_asked (choices_of h) l ∷ []
+further j (node.Case x bs) h = map (λ b. label_asked (choices_of h) b.0) bs ++ map (λ t. has_branch bs t.0) (choices_of h)
+further j (node.Send x w rs n) h = linear 4 w (is_some (used_type j w) && not (w == x)) ∷ (5, Alike (or_one (used_type j w)) (first_of_pair h) None) ∷ []
+further j (node.Index x e n) h = (4, Is (nonneg e)) ∷ []
+further j (node.Assert x n) h = (4, Is (formula_of h)) ∷ []
+further j (node.Pay x n) h = (4, Is (is_at_least j.potential (amount_of h))) ∷ []
+further j (node.Close x) h = none_left 4 j.uses ++ (5, Is (is_equal j.potential nought)) ∷ []
+further j n h = []
 
-abbrev pub at_head : Program → Judgement → Node → Kind → Result Timed Stop → Askings
-at_head g j n want (Err s) = (2, Stopped s) ∷ []
-at_head g j n want (Ok e) = head_is want (kind_of e.body) ++ ((3, Is (is_equal e.ticks nought)) ∷ further g j n e.body)
+abbrev pub at_head : Judgement → Node → Kind → Result Timed Stop → Askings
+at_head j n want (Err s) = (2, Stopped s) ∷ []
+at_head j n want (Ok e) = head_is want (kind_of e.body) ++ ((3, Is (is_equal e.ticks nought)) ∷ further j n e.body)
 
 abbrev pub at_channel : Program → Judgement → Node → ℕ → Option Kind → Option Ty → Askings
-at_channel g j n x (Some want) (Some a) = linear 1 x true ∷ at_head g j n want (made_exposed (defs g) j.ctx.vars a)
+at_channel g j n x (Some want) (Some a) = linear 1 x true ∷ at_head j n want (made_exposed (defs g) j.ctx.vars a)
 at_channel g j n x want a = linear 1 x false ∷ []
 
 abbrev pub touch_asked : Program → Judgement → Node → Touch → Askings

@@ -15,6 +15,7 @@ ghost use Rattle.rast_rules.specs.Making.{made_term};
 ghost use Rattle.rast_rules.specs.Rules.{defs, type_of, or_one, head_at, child_at, children, premises, limited, with_type, without, with_channel, with_potential, with_premise, with_variable, choices_of, first_of_pair, second_of_pair, inner_of, formula_of, amount_of, spawned, delayed};
 ghost use Rattle.rast_rules.specs.Trail.{any_stops};
 
+use crate::child_types::{draft_in_scope, draft_with_type, one_more, with_use};
 use crate::draft::{Draft, finish};
 use crate::head::{
     amount_of, at_label, choices_of, first_of_pair, formula_of, inner_of, second_of_pair,
@@ -23,7 +24,6 @@ use crate::judgement::Judgement;
 use crate::late::delay;
 use crate::making::{copy_within, expose_within, put_term, put_within};
 use crate::touch::Touch;
-use crate::turns::{change, change_at, joined, one_more};
 use rast_ergo::{gains, spends};
 use rast_index::{Formula, Lin};
 use rast_terms::{Decl, Node, Program};
@@ -61,11 +61,11 @@ fn children_of(
     match Touch::of(node) {
         Some(touch) => {
             let head = head_at(alloc, program, at, touch.x)?;
-            let children = below(alloc, program, at, node, &head);
+            let children = children_under(alloc, program, at, node, &head);
             drop(head);
             children
         }
-        None => below(alloc, program, at, node, &Ty::One),
+        None => children_under(alloc, program, at, node, &Ty::One),
     }
 }
 
@@ -97,7 +97,7 @@ fn exposed_head(alloc: Global, table: &TypeTable, vars: u8, ty: &Ty) -> Result<T
 }
 
 // The children, where `head` is the head of the channel that the node touches.
-fn below(
+fn children_under(
     alloc: Global,
     program: &Program,
     at: &Judgement,
@@ -137,7 +137,7 @@ fn below(
 }
 
 /// The only child.
-pub(crate) fn only(
+pub(crate) fn single_child(
     alloc: Global,
     at: &Judgement,
     draft: Draft,
@@ -162,7 +162,7 @@ fn part_within(alloc: Global, vars: u8, part: Option<&Ty>) -> Result<Result<Ty, 
 }
 
 // Some used channels go, and one channel goes on at another type.
-fn goes_on(
+fn with_part(
     alloc: Global,
     at: &Judgement,
     gone: &[u32],
@@ -172,7 +172,7 @@ fn goes_on(
     ensures { (a : Ty) → MatchOption part.entry (a ≡ type.One) (λ b. a ≡ b.now) → IfOk result (λ d. d ≡ drafted (with_type (without at.now gone.now) x a)) }
 {
     let part = part_within(alloc, at.ctx.vars, part)?;
-    change_at(alloc, at, at.ctx.vars, None, gone, x, part)
+    draft_with_type(alloc, at, at.ctx.vars, None, gone, x, part)
 }
 
 fn below_label(
@@ -184,8 +184,8 @@ fn below_label(
 ) -> Result<Items<Result<Judgement, Stop>>, AllocError>
     ensures { IfOk result (λ cs. cs ≡ limited (with_type at.now x (or_one (find_key label choices.now))) ∷ []) }
 {
-    let draft = goes_on(alloc, at, &[], x, at_label(choices, label))?;
-    only(alloc, at, draft, &[])
+    let draft = with_part(alloc, at, &[], x, at_label(choices, label))?;
+    single_child(alloc, at, draft, &[])
 }
 
 // A branch's child.
@@ -198,7 +198,7 @@ fn branch(
 ) -> Result<Result<Judgement, Stop>, AllocError>
     ensures { IfOk result (λ c. c ≡ limited (with_type at.now x (or_one (find_key label choices.now)))) }
 {
-    let draft = goes_on(alloc, at, &[], x, at_label(choices, label))?;
+    let draft = with_part(alloc, at, &[], x, at_label(choices, label))?;
     finish(alloc, at.decl, draft, at.ctx.premises.as_slice(), &[])
 }
 
@@ -227,8 +227,8 @@ fn below_send(
 ) -> Result<Items<Result<Judgement, Stop>>, AllocError>
     ensures { IfOk result (λ cs. cs ≡ limited (with_type (without at.now (w ∷ [])) x (second_of_pair head.now)) ∷ []) }
 {
-    let draft = goes_on(alloc, at, &[w], x, second_of_pair(head))?;
-    only(alloc, at, draft, &[])
+    let draft = with_part(alloc, at, &[w], x, second_of_pair(head))?;
+    single_child(alloc, at, draft, &[])
 }
 
 // One more used channel, at the next free number.
@@ -250,7 +250,7 @@ fn with_channel(
         gives,
         fresh: _,
     } = draft;
-    match joined(uses, at.fresh, made) {
+    match with_use(uses, at.fresh, made) {
         Ok(uses) => Ok(Draft {
             vars,
             uses,
@@ -275,11 +275,11 @@ fn below_recv(
 ) -> Result<Items<Result<Judgement, Stop>>, AllocError>
     ensures { IfOk result (λ cs. cs ≡ limited (with_channel (with_type at.now x (second_of_pair head.now)) (first_of_pair head.now)) ∷ []) }
 {
-    let draft = goes_on(alloc, at, &[], x, second_of_pair(head))?;
+    let draft = with_part(alloc, at, &[], x, second_of_pair(head))?;
     match part_within(alloc, at.ctx.vars, first_of_pair(head)) {
         Ok(first) => {
             let wider = with_channel(alloc, at, draft, first)?;
-            only(alloc, at, wider, &[])
+            single_child(alloc, at, wider, &[])
         }
         Err(error) => {
             drop(draft);
@@ -330,8 +330,8 @@ fn below_terms(
     ensures { (a : Ty) → MatchOption part.entry (a ≡ type.One) (λ b. a ≡ b.now) → IfOk result (λ cs. cs ≡ limited (with_type at.now x (put_type at.now.ctx.vars terms.now a)) ∷ []) }
 {
     let part = put_part(alloc, at.ctx.vars, part, terms)?;
-    let draft = change_at(alloc, at, at.ctx.vars, None, &[], x, part)?;
-    only(alloc, at, draft, &[])
+    let draft = draft_with_type(alloc, at, at.ctx.vars, None, &[], x, part)?;
+    single_child(alloc, at, draft, &[])
 }
 
 // A child with too many variables.
@@ -388,8 +388,8 @@ fn below_wider(
 {
     let vars = at.ctx.vars + 1;
     let part = part_within(alloc, vars, part)?;
-    let draft = change_at(alloc, at, vars, Some(terms), &[], x, part)?;
-    only(alloc, at, draft, &[])
+    let draft = draft_with_type(alloc, at, vars, Some(terms), &[], x, part)?;
+    single_child(alloc, at, draft, &[])
 }
 
 fn below_assert(
@@ -400,8 +400,8 @@ fn below_assert(
 ) -> Result<Items<Result<Judgement, Stop>>, AllocError>
     ensures { IfOk result (λ cs. cs ≡ limited (with_type at.now x (inner_of head.now)) ∷ []) }
 {
-    let draft = goes_on(alloc, at, &[], x, inner_of(head))?;
-    only(alloc, at, draft, &[])
+    let draft = with_part(alloc, at, &[], x, inner_of(head))?;
+    single_child(alloc, at, draft, &[])
 }
 
 fn below_assume(
@@ -412,11 +412,11 @@ fn below_assume(
 ) -> Result<Items<Result<Judgement, Stop>>, AllocError>
     ensures { IfOk result (λ cs. cs ≡ limited (with_premise (with_type at.now x (inner_of head.now)) (formula_of head.now)) ∷ []) }
 {
-    let draft = goes_on(alloc, at, &[], x, inner_of(head))?;
+    let draft = with_part(alloc, at, &[], x, inner_of(head))?;
     match formula_of(alloc, head) {
         Ok(formula) => {
             let more = [formula];
-            let children = only(alloc, at, draft, &more);
+            let children = single_child(alloc, at, draft, &more);
             drop(more);
             children
         }
@@ -467,9 +467,9 @@ fn below_pay(
 ) -> Result<Items<Result<Judgement, Stop>>, AllocError>
     ensures { IfOk result (λ cs. cs ≡ limited (with_potential (with_type at.now x (inner_of head.now)) (less at.now.potential (amount_of head.now))) ∷ []) }
 {
-    let draft = goes_on(alloc, at, &[], x, inner_of(head))?;
+    let draft = with_part(alloc, at, &[], x, inner_of(head))?;
     let draft = with_potential(draft, rest(&at.potential, &amount_of(head)));
-    only(alloc, at, draft, &[])
+    single_child(alloc, at, draft, &[])
 }
 
 fn below_get(
@@ -480,9 +480,9 @@ fn below_get(
 ) -> Result<Items<Result<Judgement, Stop>>, AllocError>
     ensures { IfOk result (λ cs. cs ≡ limited (with_potential (with_type at.now x (inner_of head.now)) (plus at.now.potential (amount_of head.now))) ∷ []) }
 {
-    let draft = goes_on(alloc, at, &[], x, inner_of(head))?;
+    let draft = with_part(alloc, at, &[], x, inner_of(head))?;
     let draft = with_potential(draft, gained(&at.potential, &amount_of(head)));
-    only(alloc, at, draft, &[])
+    single_child(alloc, at, draft, &[])
 }
 
 fn below_wait(
@@ -492,8 +492,8 @@ fn below_wait(
 ) -> Result<Items<Result<Judgement, Stop>>, AllocError>
     ensures { IfOk result (λ cs. cs ≡ limited (without at.now (x ∷ [])) ∷ []) }
 {
-    let draft = change(alloc, at, at.ctx.vars, None, &[x])?;
-    only(alloc, at, draft, &[])
+    let draft = draft_in_scope(alloc, at, at.ctx.vars, None, &[x])?;
+    single_child(alloc, at, draft, &[])
 }
 
 fn below_work(
@@ -503,9 +503,9 @@ fn below_work(
 ) -> Result<Items<Result<Judgement, Stop>>, AllocError>
     ensures { IfOk result (λ cs. cs ≡ limited (with_potential at.now (less at.now.potential amount.now)) ∷ []) }
 {
-    let draft = change(alloc, at, at.ctx.vars, None, &[])?;
+    let draft = draft_in_scope(alloc, at, at.ctx.vars, None, &[])?;
     let draft = with_potential(draft, rest(&at.potential, amount));
-    only(alloc, at, draft, &[])
+    single_child(alloc, at, draft, &[])
 }
 
 fn below_spawn(
@@ -522,8 +522,8 @@ fn below_spawn(
     match program.decls.get(decl as usize) {
         Some(callee) => spawned(alloc, at, callee, args, ys),
         None => {
-            let draft = change(alloc, at, at.ctx.vars, None, &[])?;
-            only(alloc, at, draft, &[])
+            let draft = draft_in_scope(alloc, at, at.ctx.vars, None, &[])?;
+            single_child(alloc, at, draft, &[])
         }
     }
 }
@@ -538,7 +538,7 @@ fn spawned(
     requires { is_small (replaced args.now callee.now.potential) ≡ true }
     ensures { IfOk result (λ cs. cs ≡ limited (spawned at.now args.now ys.now (Some callee.now)) ∷ []) }
 {
-    let draft = change(alloc, at, at.ctx.vars, None, ys)?;
+    let draft = draft_in_scope(alloc, at, at.ctx.vars, None, ys)?;
     let draft = with_potential(
         draft,
         handed(&at.potential, put_term(&callee.potential, args)),
@@ -546,7 +546,7 @@ fn spawned(
     match put_within(alloc, at.ctx.vars, &callee.gives, args) {
         Ok(made) => {
             let wider = with_channel(alloc, at, draft, made)?;
-            only(alloc, at, wider, &[])
+            single_child(alloc, at, wider, &[])
         }
         Err(error) => {
             drop(draft);

@@ -1,5 +1,5 @@
 // The judgements of all nodes.
-ghost use Rattle.std.specs.Prelude.{◌≡◌, ◌∷◌, [], ◌<◌, ℕ, length, map, slice_get, Some, None, Ok, Err, IfOk, OnOk, MatchOption};
+ghost use Rattle.std.specs.Prelude.{◌≡◌, ◌<◌, ℕ, length, slice_get, Some, None, Ok, Err, IfOk, OnOk, MatchOption};
 ghost use Rattle.rast_types.specs.declared.stop.Stop.{Stop};
 ghost use Rattle.rast_terms.specs.Nodes.{kids};
 ghost use Rattle.rast_terms.specs.declared.node.Node.{Node};
@@ -173,8 +173,7 @@ fn add_below(
     let below = made_below(alloc, program, node, judged)?;
     match below {
         Some(made) => {
-            let kids = kids_of(alloc, found)?;
-            add_made(program, kids.as_slice(), made, judged);
+            add_made(program, found, made, judged);
             Ok(())
         }
         None => Ok(()),
@@ -201,23 +200,22 @@ fn made_below(
 // The judgements of a node's children, which are made.
 fn add_made(
     program: &Program,
-    kids: &[u32],
+    parent: &Node,
     made: Items<Result<Judgement, Stop>>,
     judged: &mut Items<Option<Judgement>>,
 )
     requires accepted { IsAccepted program.now }
     requires old { AreJudged program.now judged.old }
-    requires size { length made ≡ length kids.now }
-    requires right { (i m : ℕ) (j : Judgement) → slice_get kids.now i ≡ Some m → slice_get made i ≡ Some (Ok j) → IsJudgement program.now m j }
+    requires size { length made ≡ length (kids parent.now) }
+    requires right { (i m : ℕ) (j : Judgement) → slice_get (kids parent.now) i ≡ Some m → slice_get made i ≡ Some (Ok j) → IsJudgement program.now m j }
     requires all_made { (i : ℕ) (s : Stop) → slice_get made i ≡ Some (Err s) → ⊥ }
     ensures sound { AreJudged program.now judged.new }
     ensures keeps { (m : ℕ) → HasJudgement judged.old m → HasJudgement judged.new m }
-    ensures here { (i m : ℕ) → slice_get kids.now i ≡ Some m → HasJudgement judged.new m }
+    ensures here { (i m : ℕ) → slice_get (kids parent.now) i ≡ Some m → HasJudgement judged.new m }
 {
     let mut made = made;
     while let Some(child) = made.pop() {
-        let at = made.len();
-        let node = kids[at];
+        let node = parent.kid(made.len());
         add_one(program, node, child, judged);
     }
 }
@@ -241,40 +239,4 @@ fn add_one(
         Ok(judgement) => judged.set(node as usize, Some(judgement)),
         Err(_) => unreachable!(),
     }
-}
-
-// The child nodes, in order.
-fn kids_of(alloc: Global, node: &Node) -> Result<Items<u32>, AllocError>
-    ensures { IfOk result (λ ks. ks ≡ kids node.now) }
-{
-    match node {
-        Node::Case { branches, .. } => branch_nodes(alloc, branches.as_slice()),
-        Node::Label { next, .. } | Node::Send { next, .. } => one_node(alloc, *next),
-        Node::Recv { next, .. } | Node::Index { next, .. } => one_node(alloc, *next),
-        Node::Bind { next, .. } | Node::Assert { next, .. } => one_node(alloc, *next),
-        Node::Assume { next, .. } | Node::Pay { next, .. } => one_node(alloc, *next),
-        Node::Get { next, .. } | Node::Wait { next, .. } => one_node(alloc, *next),
-        Node::Spawn { next, .. } | Node::Work { next, .. } => one_node(alloc, *next),
-        Node::Delay { next, .. } => one_node(alloc, *next),
-        Node::Close { .. } | Node::Forward { .. } => Ok(Items::new(alloc)),
-        Node::Call { .. } | Node::Impossible => Ok(Items::new(alloc)),
-    }
-}
-
-fn one_node(alloc: Global, next: u32) -> Result<Items<u32>, AllocError>
-    ensures { IfOk result (λ ks. ks ≡ next ∷ []) }
-{
-    let mut out = Items::new(alloc);
-    out.push(next)?;
-    Ok(out)
-}
-
-fn branch_nodes(alloc: Global, branches: &[(u32, u32)]) -> Result<Items<u32>, AllocError>
-    ensures { IfOk result (λ ks. ks ≡ map (λ b. b.1) branches.now) }
-{
-    let mut out = Items::new(alloc);
-    for (_, next) in branches {
-        out.push(*next)?;
-    }
-    Ok(out)
 }

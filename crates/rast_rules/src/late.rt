@@ -7,10 +7,10 @@ ghost use Rattle.rast_rules.specs.Draft.{made_uses};
 ghost use Rattle.rast_rules.specs.Late.{has_ticks};
 ghost use Rattle.rast_rules.specs.Rules.{defs, limited, delayed};
 
-use crate::below::only;
+use crate::below::single_child;
+use crate::child_types::{Uses, count_left, draft, with_use};
 use crate::judgement::Judgement;
 use crate::making::settled;
-use crate::turns::{Uses, count_left, draft, joined};
 use rast_index::{IndexErr, Lin};
 use rast_terms::Program;
 use rast_time::shift;
@@ -33,7 +33,7 @@ pub(crate) fn delay(
     let made = late_uses(alloc, &program.types, at.ctx.vars, by, uses)?;
     let gives = late_type(alloc, &program.types, at.ctx.vars, by, &at.gives.1)?;
     let draft = draft(at, at.ctx.vars, made, count_left(uses, &[]), gives);
-    only(alloc, at, draft, &[])
+    single_child(alloc, at, draft, &[])
 }
 
 fn late_uses(
@@ -49,7 +49,7 @@ fn late_uses(
     let mut made = Ok(Items::new(alloc));
     for (channel, ty) in uses {
         let earlier = late_type(alloc, table, vars, by, ty)?;
-        made = joined(made, *channel, earlier)?;
+        made = with_use(made, *channel, earlier)?;
     }
     Ok(made)
 }

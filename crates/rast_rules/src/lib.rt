@@ -5,6 +5,7 @@ mod asking;
 mod below;
 mod calls;
 mod channels;
+mod child_types;
 mod count;
 mod deal;
 mod draft;
@@ -21,7 +22,6 @@ mod root;
 mod touch;
 mod touching;
 mod trail;
-mod turns;
 
 pub use asking::premises;
 pub use below::children;

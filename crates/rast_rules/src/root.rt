@@ -6,11 +6,11 @@ ghost use Rattle.rast_rules.specs.Draft.{made_uses};
 ghost use Rattle.rast_rules.specs.Rules.{limited, root};
 ghost use Rattle.rast_rules.specs.Start.{IsStart};
 
+use crate::child_types::{Uses, with_use};
 use crate::draft::{Draft, finish};
 use crate::formulas::same_term;
 use crate::judgement::Judgement;
 use crate::making::copy_within;
-use crate::turns::{Uses, joined};
 use rast_terms::{Decl, Program};
 use rast_types::{Stop, Ty};
 use sqlite_items::Items;
@@ -72,7 +72,7 @@ fn root_uses(alloc: Global, vars: u8, types: &[Ty]) -> Result<Uses, AllocError>
     let mut made = Ok(Items::new(alloc));
     for i in 0..types.len() {
         let ty = copy_within(alloc, vars, &types[i])?;
-        made = joined(made, i as u32 + 1, ty)?;
+        made = with_use(made, i as u32 + 1, ty)?;
     }
     Ok(made)
 }

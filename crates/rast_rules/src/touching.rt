@@ -56,7 +56,7 @@ fn ask_head(
     ty: &Ty,
     trail: &mut Trail,
 ) -> Result<(), AllocError>
-    ensures { OnOk result (trail.new ≡ and_then trail.old (deal at.now.ctx.vars (refs_of node.now) (at_head program.now at.now node.now want (made_exposed (defs program.now) at.now.ctx.vars ty.now)))) }
+    ensures { OnOk result (trail.new ≡ and_then trail.old (deal at.now.ctx.vars (refs_of node.now) (at_head at.now node.now want (made_exposed (defs program.now) at.now.ctx.vars ty.now)))) }
 {
     let made = expose_within(alloc, &program.types, at.ctx.vars, ty)?;
     match made {
@@ -80,11 +80,11 @@ fn ask_exposed(
     exposed: &Exposed,
     trail: &mut Trail,
 ) -> Result<(), AllocError>
-    ensures { made_exposed (defs program.now) at.now.ctx.vars ty.now ≡ Ok (record { ticks = exposed.now.ticks; body = exposed.now.head }) → OnOk result (trail.new ≡ and_then trail.old (deal at.now.ctx.vars (refs_of node.now) (at_head program.now at.now node.now want (made_exposed (defs program.now) at.now.ctx.vars ty.now)))) }
+    ensures { made_exposed (defs program.now) at.now.ctx.vars ty.now ≡ Ok (record { ticks = exposed.now.ticks; body = exposed.now.head }) → OnOk result (trail.new ≡ and_then trail.old (deal at.now.ctx.vars (refs_of node.now) (at_head at.now node.now want (made_exposed (defs program.now) at.now.ctx.vars ty.now)))) }
 {
     ask_kind(trail, want, kind_of(&exposed.head))?;
     trail.ask(3, truth(now(&program.types, ty)))?;
-    ask_further(alloc, program, at, node, &exposed.head, trail)
+    ask_further(alloc, at, node, &exposed.head, trail)
 }
 
 fn ask_kind(trail: &mut Trail, want: Kind, found: Option<Kind>) -> Result<(), AllocError>
@@ -105,15 +105,13 @@ fn ask_kind(trail: &mut Trail, want: Kind, found: Option<Kind>) -> Result<(), Al
 // What is asked behind the head.
 fn ask_further(
     alloc: Global,
-    program: &Program,
     at: &Judgement,
     node: &Node,
     head: &Ty,
     trail: &mut Trail,
 ) -> Result<(), AllocError>
-    ensures { OnOk result (trail.new ≡ and_then trail.old (deal at.now.ctx.vars (refs_of node.now) (further program.now at.now node.now head.now))) }
+    ensures { OnOk result (trail.new ≡ and_then trail.old (deal at.now.ctx.vars (refs_of node.now) (further at.now node.now head.now))) }
 {
-    let _program = program;
     match node {
         Node::Label { label, .. } => ask_label(trail, choices_of(head), *label),
         Node::Case { branches, .. } => ask_case(trail, choices_of(head), branches.as_slice()),

@@ -31,7 +31,7 @@ pub(crate) fn program_of(
     if all.len() > LIMIT {
         return Ok(None);
     }
-    let checked = match load(alloc, &all) {
+    let checked = match load(alloc, all) {
         Ok(checked) => checked,
         Err(why) => {
             drop(why);

@@ -5,6 +5,8 @@ use Rattle.rast_terms.specs.declared.node.Node.TheVariants as node
 use Rattle.rast_types.specs.declared.ty.Kind.{Kind}
 use Rattle.rast_types.specs.declared.ty.Kind.TheVariants as kind
 use Rattle.rast_types.specs.declared.equation.Ref.{Ref}
+use Rattle.rast_terms.specs.declared.kids.Kids.{Kids}
+use Rattle.rast_terms.specs.declared.kids.Kids.TheVariants as found
 
 -- the channel that a node touches, and the head that it needs where the channel is provided and where it is used
 pub record Touch : Type 0 where
@@ -50,6 +52,12 @@ kids (node.Call x d es ys rs) = []
 kids node.Impossible = []
 kids (node.Work r n) = n ∷ []
 kids (node.Delay t n) = n ∷ []
+
+-- the same where they stand in the node
+abbrev pub listed : Kids → List ℕ
+listed found.Nothing = []
+listed (found.One n) = n ∷ []
+listed (found.Branches bs) = map (λ b. b.1) bs.now
 
 abbrev pub refs_of : Node → List Ref
 refs_of (node.Send x w rs n) = rs

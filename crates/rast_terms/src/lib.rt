@@ -1,6 +1,7 @@
 //! A program's tables: names, types, declarations, equations and nodes.
 #![tactic(auto)]
 
+mod kids;
 mod node;
 mod program;
 mod texts;

@@ -56,18 +56,19 @@ fn a_term_stands_for_its_variables(rt: HostRuntime) -> Result<(), Fail> {
         constant: 0,
         coefficient,
     };
-    match linear_of(alloc, scope(alloc)?.as_slice(), &twice_n(alloc)?) {
+    match linear_of(alloc, &scope(alloc)?, &twice_n(alloc)?) {
         Ok(found) => assert_eq!(rt; found, want),
         Err(_) => assert!(rt; false),
     }
-    assert!(rt; linear_of(alloc, &[], &twice_n(alloc)?).is_err());
+    let none: Items<Bound> = Items::new(alloc);
+    assert!(rt; linear_of(alloc, &none, &twice_n(alloc)?).is_err());
     Ok(())
 }
 
 #[test]
 fn a_formula_stands_for_itself(rt: HostRuntime) -> Result<(), Fail> {
     let alloc = rt.alloc();
-    match formula_of(alloc, scope(alloc)?.as_slice(), &truth(alloc)?) {
+    match formula_of(alloc, &scope(alloc)?, &truth(alloc)?) {
         Ok(Formula::True) => Ok(()),
         _ => {
             assert!(rt; false);

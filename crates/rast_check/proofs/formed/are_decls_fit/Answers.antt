@@ -9,8 +9,8 @@ loop-decl-preserved c =
     let i = c.loop-decl.decl-index in
     let x = c.decl-item.result in
     record {
-      is = test_step is_fit_decl xs i x c.loop-decl-test.true c.decl-item.is (sym c.in_ok-is_fit_decl.ensures.is ∙ c.if-not-branch.false) c.loop-decl.invariant.is;
-      more = taken_step IsFitDecl xs i x c.loop-decl-test.true c.decl-item.is (c.in_ok-is_fit_decl.ensures.more c.if-not-branch.false) c.loop-decl.invariant.more;
+      is = test_step is_fit_decl xs i x c.loop-decl-test.true c.decl-item.is (sym c.is_fit_decl.ensures.is ∙ c.if-not-is_fit_decl.false) c.loop-decl.invariant.is;
+      more = taken_step IsFitDecl xs i x c.loop-decl-test.true c.decl-item.is (c.is_fit_decl.ensures.more c.if-not-is_fit_decl.false) c.loop-decl.invariant.more;
     }
 
 pub returns-clause-more : goal.returns-clause-more

@@ -10,6 +10,6 @@ loop-def-preserved c =
     let i = c.loop-def.def-index in
     let x = c.def-item.result in
     record {
-      is = test_step is_fit_def xs i x c.loop-def-test.true c.def-item.is (sym c.in_ok-is_fit_def.ensures.is ∙ c.if-not-branch.false) c.loop-def.invariant.is;
-      more = taken_step IsFitTypeDef xs i x c.loop-def-test.true c.def-item.is (c.in_ok-is_fit_def.ensures.more c.if-not-branch.false) c.loop-def.invariant.more;
+      is = test_step is_fit_def xs i x c.loop-def-test.true c.def-item.is (sym c.is_fit_def.ensures.is ∙ c.if-not-is_fit_def.false) c.loop-def.invariant.is;
+      more = taken_step IsFitTypeDef xs i x c.loop-def-test.true c.def-item.is (c.is_fit_def.ensures.more c.if-not-is_fit_def.false) c.loop-def.invariant.more;
     }

@@ -10,8 +10,8 @@ loop-equation-preserved c =
     let i = c.loop-equation.equation-index in
     let x = c.equation-item.result in
     record {
-      is = test_step is_fit_equation xs i x c.loop-equation-test.true c.equation-item.is (sym c.in_ok-is_fit_equation.ensures.is ∙ c.if-not-branch.false) c.loop-equation.invariant.is;
-      more = taken_step IsFitEquation xs i x c.loop-equation-test.true c.equation-item.is (c.in_ok-is_fit_equation.ensures.more c.if-not-branch.false) c.loop-equation.invariant.more;
+      is = test_step is_fit_equation xs i x c.loop-equation-test.true c.equation-item.is (sym c.is_fit_equation.ensures.is ∙ c.if-not-is_fit_equation.false) c.loop-equation.invariant.is;
+      more = taken_step IsFitEquation xs i x c.loop-equation-test.true c.equation-item.is (c.is_fit_equation.ensures.more c.if-not-is_fit_equation.false) c.loop-equation.invariant.more;
     }
 
 pub returns-clause-more : goal.returns-clause-more

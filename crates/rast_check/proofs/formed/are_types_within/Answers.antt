@@ -9,6 +9,6 @@ loop-a-preserved c =
     let i = c.loop-a.a-index in
     let x = c.a-item.result in
     record {
-      is = test_step (is_within_type c.args.vars) xs i x c.loop-a-test.true c.a-item.is (sym c.in_ok-is_within_type.ensures.is ∙ c.if-not-branch.false) c.loop-a.invariant.is;
-      more = taken_step (IsWithinType c.args.vars) xs i x c.loop-a-test.true c.a-item.is (c.in_ok-is_within_type.ensures.more c.if-not-branch.false) c.loop-a.invariant.more;
+      is = test_step (is_within_type c.args.vars) xs i x c.loop-a-test.true c.a-item.is (sym c.is_type_fit.ensures.is ∙ c.if-not-is_type_fit.false) c.loop-a.invariant.is;
+      more = taken_step (IsWithinType c.args.vars) xs i x c.loop-a-test.true c.a-item.is (c.is_type_fit.ensures.more c.if-not-is_type_fit.false) c.loop-a.invariant.more;
     }

@@ -10,7 +10,7 @@ returns-clause-more c =
     for_ok c.well_made.result
     (λ t h b. let w = h b in record {
       counted = counted_is g (sym c.is_counted.ensures ∙ c.if-not-is_counted.false);
-      scoped = c.in_ok-is_scoped.ensures.more c.if-not-branch.false;
+      scoped = c.is_scoped.ensures.more c.if-not-is_scoped.false;
       made = w;
       forward = forward_is g w;
       forest = forest_is g w;

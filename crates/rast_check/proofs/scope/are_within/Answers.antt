@@ -10,6 +10,6 @@ loop-formula-preserved c =
     let i = c.loop-formula.formula-index in
     let f = c.formula-item.result in
     record {
-      is = test_step (is_within n) fs i f c.loop-formula-test.true c.formula-item.is (sym c.in_ok-is_within.ensures.is ∙ c.if-not-branch.false) c.loop-formula.invariant.is;
-      more = within_taken n fs i f c.loop-formula-test.true c.formula-item.is (c.in_ok-is_within.ensures.more c.if-not-branch.false) c.loop-formula.invariant.more;
+      is = test_step (is_within n) fs i f c.loop-formula-test.true c.formula-item.is (sym c.is_formula_fit.ensures.is ∙ c.if-not-is_formula_fit.false) c.loop-formula.invariant.is;
+      more = within_taken n fs i f c.loop-formula-test.true c.formula-item.is (c.is_formula_fit.ensures.more c.if-not-is_formula_fit.false) c.loop-formula.invariant.more;
     }

@@ -2,8 +2,7 @@ use Rattle.std.proofs.Common.{◌∙◌, ap, not, subst, sym, true≢false}
 use Rattle.rast_terms.specs.declared.program.Program.{Program}
 use Rattle.rast_rules.specs.Plan.{IsForest}
 use Rattle.rast_rules.specs.Rules.{IsAccepted}
-use Rattle.rast_check.specs.Decided.{searched}
-use Rattle.rast_check.proofs.Forests.{forest_clear}
+use Rattle.rast_check.proofs.Forests.{forest_is}
 use Rattle.rast_cli.specs.Reported.{IsRunnable}
 use Rattle.rast_cli.proofs.Ending.{loads_runnable, is_some_main}
 use Rattle.rast_cli.proofs.run.say_run.Goals as goal
@@ -26,4 +25,4 @@ pub report-requires-clause-forest : goal.report-requires-clause-forest
 report-requires-clause-forest g c =
     let found = rw c.in-Program.is at c.in_ok-checked.ensures in
     let loaded = found.0 in
-    subst (λ (p : Program). IsForest p) (sym c.program-2.ensures) (forest_clear searched c.in-Program.checked.program loaded.2.clear)
+    subst (λ (p : Program). IsForest p) (sym c.program-2.ensures) (forest_is c.in-Program.checked.program loaded.2.made)

@@ -1,97 +1,12 @@
-use Rattle.std.proofs.Common.{◌≡◌, ◌∙◌, sym, length, arith}
-use Rattle.rast_equal.specs.Walk.{by_equation, instance_points, numbered_from_1}
-use Rattle.rast_equal.proofs.Faults.{decides_from}
-use Rattle.rast_equal.proofs.Instances.{put_formula_within, put_type_within}
-use Rattle.rast_equal.proofs.Served.{equation_found, instance_first, instance_second, instance_third, instance_last, numbered_fit}
+use Rattle.std.proofs.Common.{Option, subst}
+use Rattle.rast_types.specs.declared.equation.Equation.{Equation}
+use Rattle.rast_equal.specs.Fault.{Decides}
+use Rattle.rast_equal.specs.Walk.{by_equation}
+use Rattle.rast_equal.proofs.Served.{numbered_fit}
 use Rattle.rast_equal.proofs.references.ask_equation.Goals as goal
 
-pub returns-in_err-ask_natural_each : goal.returns-in_err-ask_natural_each
-returns-in_err-ask_natural_each c =
-    let es = c.args.equations.now in
-    let k = c.args.reference.0 in
-    let args = c.args.reference.1.now in
-    let p = c.args.place.now in
-    let a = c.args.left.now in
-    let b = c.args.right.now in
-    let e = c.in-Some.equation.now in
-    let sized : length args ≡ e.vars = omega arith in
-    let is : by_equation (numbered_from_1 es k) args p a b ≡ instance_points e args p a b = equation_found es k e args p a b c.in-Some.ensures sized (sym c.are_closed.ensures.is ∙ c.if-not-are_closed.false) in
-    decides_from (by_equation (numbered_from_1 es k) args p a b) c.in_err-ask_natural_each.field-0.0 c.from_residual.result c.from_residual.ensures.1
-    (instance_first e args p a b (by_equation (numbered_from_1 es k) args p a b) is c.in_err-ask_natural_each.field-0.0 c.in_err-ask_natural_each.ensures)
-
-pub ask_premise-requires-clause-few : goal.ask_premise-requires-clause-few
-ask_premise-requires-clause-few c =
-    let es = c.args.equations.now in
-    let k = c.args.reference.0 in
-    let args = c.args.reference.1.now in
-    let p = c.args.place.now in
-    let a = c.args.left.now in
-    let b = c.args.right.now in
-    let e = c.in-Some.equation.now in
-    let sized : length args ≡ e.vars = omega arith in
-    omega (arith, (numbered_fit es k e c.requires.equations c.in-Some.ensures).few)
-
-pub ask_premise-requires-clause-asked : goal.ask_premise-requires-clause-asked
-ask_premise-requires-clause-asked c =
-    let p = c.args.place.now in
-    let e = c.in-Some.equation.now in
-    let fit = numbered_fit c.args.equations.now c.args.reference.0 e c.requires.equations c.in-Some.ensures in
-    record {
-      scope = c.requires.fit.scope;
-      within = put_formula_within e.vars p.vars c.args.reference.1.now e.premise fit.premise (c.are_closed.ensures.more c.if-not-are_closed.false);
-    }
-
-pub returns-in_err-ask_premise : goal.returns-in_err-ask_premise
-returns-in_err-ask_premise c =
-    let es = c.args.equations.now in
-    let k = c.args.reference.0 in
-    let args = c.args.reference.1.now in
-    let p = c.args.place.now in
-    let a = c.args.left.now in
-    let b = c.args.right.now in
-    let e = c.in-Some.equation.now in
-    let sized : length args ≡ e.vars = omega arith in
-    let is : by_equation (numbered_from_1 es k) args p a b ≡ instance_points e args p a b = equation_found es k e args p a b c.in-Some.ensures sized (sym c.are_closed.ensures.is ∙ c.if-not-are_closed.false) in
-    decides_from (by_equation (numbered_from_1 es k) args p a b) c.in_err-ask_premise.field-0.0 c.from_residual-in_err-ask_premise.result c.from_residual-in_err-ask_premise.ensures.1
-    (instance_second e args p a b (by_equation (numbered_from_1 es k) args p a b) is c.in_err-ask_premise.field-0.0 c.in_ok-ask_natural_each.ensures c.in_err-ask_premise.ensures)
-
-pub alike_side-requires-clause-side : goal.alike_side-requires-clause-side
-alike_side-requires-clause-side c =
-    let p = c.args.place.now in
-    let e = c.in-Some.equation.now in
-    let fit = numbered_fit c.args.equations.now c.args.reference.0 e c.requires.equations c.in-Some.ensures in
-    put_type_within e.vars p.vars c.args.reference.1.now e.left fit.left (c.are_closed.ensures.more c.if-not-are_closed.false)
-
-pub returns-in_err-alike_side : goal.returns-in_err-alike_side
-returns-in_err-alike_side c =
-    let es = c.args.equations.now in
-    let k = c.args.reference.0 in
-    let args = c.args.reference.1.now in
-    let p = c.args.place.now in
-    let a = c.args.left.now in
-    let b = c.args.right.now in
-    let e = c.in-Some.equation.now in
-    let sized : length args ≡ e.vars = omega arith in
-    let is : by_equation (numbered_from_1 es k) args p a b ≡ instance_points e args p a b = equation_found es k e args p a b c.in-Some.ensures sized (sym c.are_closed.ensures.is ∙ c.if-not-are_closed.false) in
-    decides_from (by_equation (numbered_from_1 es k) args p a b) c.in_err-alike_side.field-0.0 c.from_residual-in_err-alike_side.result c.from_residual-in_err-alike_side.ensures.1
-    (instance_third e args p a b (by_equation (numbered_from_1 es k) args p a b) is c.in_err-alike_side.field-0.0 c.in_ok-ask_natural_each.ensures c.in_ok-ask_premise.ensures c.in_err-alike_side.ensures)
-
-pub alike_side-requires-2-clause-side : goal.alike_side-requires-2-clause-side
-alike_side-requires-2-clause-side c =
-    let p = c.args.place.now in
-    let e = c.in-Some.equation.now in
-    let fit = numbered_fit c.args.equations.now c.args.reference.0 e c.requires.equations c.in-Some.ensures in
-    put_type_within e.vars p.vars c.args.reference.1.now e.right fit.right (c.are_closed.ensures.more c.if-not-are_closed.false)
+pub ask_instance-requires-clause-equation : goal.ask_instance-requires-clause-equation
+ask_instance-requires-clause-equation c = numbered_fit c.args.equations.now c.args.reference.0 c.in-Some.equation.now c.requires.equations c.in-Some.ensures
 
 pub returns : goal.returns
-returns c =
-    let es = c.args.equations.now in
-    let k = c.args.reference.0 in
-    let args = c.args.reference.1.now in
-    let p = c.args.place.now in
-    let a = c.args.left.now in
-    let b = c.args.right.now in
-    let e = c.in-Some.equation.now in
-    let sized : length args ≡ e.vars = omega arith in
-    let is : by_equation (numbered_from_1 es k) args p a b ≡ instance_points e args p a b = equation_found es k e args p a b c.in-Some.ensures sized (sym c.are_closed.ensures.is ∙ c.if-not-are_closed.false) in
-    instance_last e args p a b (by_equation (numbered_from_1 es k) args p a b) is c.alike_side-2.result c.in_ok-ask_natural_each.ensures c.in_ok-ask_premise.ensures c.in_ok-alike_side.ensures c.alike_side-2.ensures
+returns c = subst (λ (o : Option Equation). Decides (by_equation o c.args.reference.1.now c.args.place.now c.args.left.now c.args.right.now) c.ask_instance.result) c.in-Some.ensures c.ask_instance.ensures

@@ -1,14 +1,13 @@
-use Rattle.std.proofs.Common.{rules, ◌∙◌, ◌≤◌, ◌+◌, drop, sym, ap, ap₂, subst, arith}
-use Rattle.rast_types.specs.declared.table.Ctx.{Ctx}
+use Rattle.std.proofs.Common.{rules, ◌∙◌, ◌≤◌, ◌+◌, ◌++◌, ◌∷◌, [], drop, sym, ap, ap₂, refl, subst, arith}
 use Rattle.rast_types.specs.declared.ty.Ty.{Ty, the_lemmas}
 use Rattle.rast_types.specs.declared.ty.Ty.TheVariants as ty
 use Rattle.rast_equal.specs.Fit.{AreClosed, AreWithinTypes, IsWithinType}
-use Rattle.rast_equal.specs.Invalid.{Judges, choice_claims}
-use Rattle.rast_equal.specs.Valid.{claims_of, leads_to_next}
+use Rattle.rast_equal.specs.Invalid.{choice_claims}
+use Rattle.rast_equal.specs.Valid.{claims_of}
 use Rattle.rast_equal.proofs.Claims.{choice_next, judges_from, leaves_more, leaves_refused}
 use Rattle.rast_equal.proofs.Demands.{name_args}
 use Rattle.rast_equal.proofs.Fits.{all_part, assert_parts, assume_parts, element_within, ex_part, gets_parts, lolli_parts, next_parts, pays_parts, plus_parts, tensor_parts, with_parts}
-use Rattle.rast_equal.proofs.Judged.{gets_false, gets_then, judged_all, judged_assert, judged_assume, judged_ex, judged_named, judged_one, judged_over, judged_plus, judged_with, lolli_false, lolli_then, next_false, next_shape, next_then, pays_false, pays_then, ready_part, ready_premise, ready_variable, tensor_false, tensor_then}
+use Rattle.rast_equal.proofs.Judged.{judged_all, judged_assert, judged_assume, judged_ex, judged_gets, judged_here, judged_named, judged_next, judged_one, judged_over, judged_pays, judged_plus, judged_with, lolli_false, lolli_then, potential_false, potential_then, ready_part, ready_premise, ready_variable, tensor_false, tensor_then, ticks_false, ticks_shape, ticks_then}
 use Rattle.rast_equal.proofs.validity.+check_type.Goals as goal
 
 pub check_type-returns-then-ctx-gt16 : goal.check_type-returns-then-ctx-gt16
@@ -164,205 +163,226 @@ check_type-returns-in-Named t c =
     let few : n ≤ 16 = omega arith in
     judged_named ds n ps few a c.in-Named.field-0 c.as_slice-in-Named.result.now c.check_natural_each.result (c.in-Named.is ∙ ap (ty.Named c.in-Named.field-0) (sym c.as_slice-in-Named.ensures)) c.check_natural_each.ensures
 
-pub check_type-check_type-requires-in-Ex : goal.check_type-check_type-requires-in-Ex
-check_type-check_type-requires-in-Ex t c =
+pub check_type-check_below_variable-requires : goal.check_type-check_below_variable-requires
+check_type-check_below_variable-requires t c =
     let ds = c.args.table.now.defs in
     let n = c.args.ctx.now.vars in
     let ps = c.args.ctx.now.premises in
     let a = c.args.a.now in
     let few : n ≤ 16 = omega arith in
-    let r = ready_variable n ps c.in_ok-with_variable-in-Ex.field-0 c.in-Ex.b c.get-in-Ex.result.now c.in_ok-with_variable-in-Ex.ensures c.get-in-Ex.ensures few c.requires.premises (ex_part n c.in-Ex.b (subst (IsWithinType n) c.in-Ex.is c.requires.within)) in
+    (search (rules, the_lemmas), (few, (c.requires.premises, subst (IsWithinType (n + 1)) (sym c.get-in-Ex.ensures) (ex_part n c.in-Ex.b (subst (IsWithinType n) c.in-Ex.is c.requires.within)))))
+
+pub check_type-returns-in-Ex : goal.check_type-returns-in-Ex
+check_type-returns-in-Ex t c =
+    let ds = c.args.table.now.defs in
+    let n = c.args.ctx.now.vars in
+    let ps = c.args.ctx.now.premises in
+    let a = c.args.a.now in
+    let few : n ≤ 16 = omega arith in
+    judged_ex ds n ps few a (n + 1) ps c.get-in-Ex.result.now c.check_below_variable.result (c.in-Ex.is ∙ ap ty.Ex (sym c.get-in-Ex.ensures)) refl refl c.check_below_variable.ensures
+
+pub check_type-check_below_variable-requires-in-All : goal.check_type-check_below_variable-requires-in-All
+check_type-check_below_variable-requires-in-All t c =
+    let ds = c.args.table.now.defs in
+    let n = c.args.ctx.now.vars in
+    let ps = c.args.ctx.now.premises in
+    let a = c.args.a.now in
+    let few : n ≤ 16 = omega arith in
+    (search (rules, the_lemmas), (few, (c.requires.premises, subst (IsWithinType (n + 1)) (sym c.get-in-All.ensures) (all_part n c.in-All.b (subst (IsWithinType n) c.in-All.is c.requires.within)))))
+
+pub check_type-returns-in-All : goal.check_type-returns-in-All
+check_type-returns-in-All t c =
+    let ds = c.args.table.now.defs in
+    let n = c.args.ctx.now.vars in
+    let ps = c.args.ctx.now.premises in
+    let a = c.args.a.now in
+    let few : n ≤ 16 = omega arith in
+    judged_all ds n ps few a (n + 1) ps c.get-in-All.result.now c.check_below_variable-in-All.result (c.in-All.is ∙ ap ty.All (sym c.get-in-All.ensures)) refl refl c.check_below_variable-in-All.ensures
+
+pub check_type-check_below_premise-requires : goal.check_type-check_below_premise-requires
+check_type-check_below_premise-requires t c =
+    let ds = c.args.table.now.defs in
+    let n = c.args.ctx.now.vars in
+    let ps = c.args.ctx.now.premises in
+    let a = c.args.a.now in
+    let few : n ≤ 16 = omega arith in
+    let p = assert_parts n c.in-Assert.f c.in-Assert.b (subst (IsWithinType n) c.in-Assert.is c.requires.within) in
+    (search (rules, the_lemmas), (few, (c.requires.premises, (p.0, subst (IsWithinType n) (sym c.get-in-Assert.ensures) p.1))))
+
+pub check_type-returns-in-Assert : goal.check_type-returns-in-Assert
+check_type-returns-in-Assert t c =
+    let ds = c.args.table.now.defs in
+    let n = c.args.ctx.now.vars in
+    let ps = c.args.ctx.now.premises in
+    let a = c.args.a.now in
+    let few : n ≤ 16 = omega arith in
+    judged_assert ds n ps few a c.in-Assert.f n (ps ++ c.in-Assert.f ∷ []) c.get-in-Assert.result.now c.check_below_premise.result (c.in-Assert.is ∙ ap (ty.Assert c.in-Assert.f) (sym c.get-in-Assert.ensures)) refl refl c.check_below_premise.ensures
+
+pub check_type-check_below_premise-requires-in-Assume : goal.check_type-check_below_premise-requires-in-Assume
+check_type-check_below_premise-requires-in-Assume t c =
+    let ds = c.args.table.now.defs in
+    let n = c.args.ctx.now.vars in
+    let ps = c.args.ctx.now.premises in
+    let a = c.args.a.now in
+    let few : n ≤ 16 = omega arith in
+    let p = assume_parts n c.in-Assume.f c.in-Assume.b (subst (IsWithinType n) c.in-Assume.is c.requires.within) in
+    (search (rules, the_lemmas), (few, (c.requires.premises, (p.0, subst (IsWithinType n) (sym c.get-in-Assume.ensures) p.1))))
+
+pub check_type-returns-in-Assume : goal.check_type-returns-in-Assume
+check_type-returns-in-Assume t c =
+    let ds = c.args.table.now.defs in
+    let n = c.args.ctx.now.vars in
+    let ps = c.args.ctx.now.premises in
+    let a = c.args.a.now in
+    let few : n ≤ 16 = omega arith in
+    judged_assume ds n ps few a c.in-Assume.f n (ps ++ c.in-Assume.f ∷ []) c.get-in-Assume.result.now c.check_below_premise-in-Assume.result (c.in-Assume.is ∙ ap (ty.Assume c.in-Assume.f) (sym c.get-in-Assume.ensures)) refl refl c.check_below_premise-in-Assume.ensures
+
+pub check_type-check_below_potential-requires : goal.check_type-check_below_potential-requires
+check_type-check_below_potential-requires t c =
+    let ds = c.args.table.now.defs in
+    let n = c.args.ctx.now.vars in
+    let ps = c.args.ctx.now.premises in
+    let a = c.args.a.now in
+    let few : n ≤ 16 = omega arith in
+    let p = pays_parts n c.in-Pays.p c.in-Pays.b (subst (IsWithinType n) c.in-Pays.is c.requires.within) in
+    (search (rules, the_lemmas), (few, (c.requires.premises, (p.0, subst (IsWithinType n) (sym c.get-in-Pays.ensures) p.1))))
+
+pub check_type-returns-in-Pays : goal.check_type-returns-in-Pays
+check_type-returns-in-Pays t c =
+    let ds = c.args.table.now.defs in
+    let n = c.args.ctx.now.vars in
+    let ps = c.args.ctx.now.premises in
+    let a = c.args.a.now in
+    let few : n ≤ 16 = omega arith in
+    judged_pays ds n ps few a c.in-Pays.p c.get-in-Pays.result.now c.check_below_potential.result (c.in-Pays.is ∙ ap (ty.Pays c.in-Pays.p) (sym c.get-in-Pays.ensures)) c.check_below_potential.ensures
+
+pub check_type-check_below_potential-requires-in-Gets : goal.check_type-check_below_potential-requires-in-Gets
+check_type-check_below_potential-requires-in-Gets t c =
+    let ds = c.args.table.now.defs in
+    let n = c.args.ctx.now.vars in
+    let ps = c.args.ctx.now.premises in
+    let a = c.args.a.now in
+    let few : n ≤ 16 = omega arith in
+    let p = gets_parts n c.in-Gets.p c.in-Gets.b (subst (IsWithinType n) c.in-Gets.is c.requires.within) in
+    (search (rules, the_lemmas), (few, (c.requires.premises, (p.0, subst (IsWithinType n) (sym c.get-in-Gets.ensures) p.1))))
+
+pub check_type-returns-in-Gets : goal.check_type-returns-in-Gets
+check_type-returns-in-Gets t c =
+    let ds = c.args.table.now.defs in
+    let n = c.args.ctx.now.vars in
+    let ps = c.args.ctx.now.premises in
+    let a = c.args.a.now in
+    let few : n ≤ 16 = omega arith in
+    judged_gets ds n ps few a c.in-Gets.p c.get-in-Gets.result.now c.check_below_potential-in-Gets.result (c.in-Gets.is ∙ ap (ty.Gets c.in-Gets.p) (sym c.get-in-Gets.ensures)) c.check_below_potential-in-Gets.ensures
+
+pub check_type-check_below_ticks-requires : goal.check_type-check_below_ticks-requires
+check_type-check_below_ticks-requires t c =
+    let ds = c.args.table.now.defs in
+    let n = c.args.ctx.now.vars in
+    let ps = c.args.ctx.now.premises in
+    let a = c.args.a.now in
+    let few : n ≤ 16 = omega arith in
+    let p = next_parts n c.in-Next.ticks c.in-Next.b (subst (IsWithinType n) c.in-Next.is c.requires.within) in
+    (search (rules, the_lemmas), (few, (c.requires.premises, (p.0, subst (IsWithinType n) (sym c.get-in-Next.ensures) p.1))))
+
+pub check_type-returns-in-Next : goal.check_type-returns-in-Next
+check_type-returns-in-Next t c =
+    let ds = c.args.table.now.defs in
+    let n = c.args.ctx.now.vars in
+    let ps = c.args.ctx.now.premises in
+    let a = c.args.a.now in
+    let few : n ≤ 16 = omega arith in
+    judged_next ds n ps few a c.in-Next.ticks c.get-in-Next.result.now c.check_below_ticks.result (c.in-Next.is ∙ ap (ty.Next c.in-Next.ticks) (sym c.get-in-Next.ensures)) c.check_below_ticks.ensures
+
+pub check_below_variable-check_type-requires : goal.check_below_variable-check_type-requires
+check_below_variable-check_type-requires t c =
+    let ds = c.args.table.now.defs in
+    let n = c.args.ctx.now.vars in
+    let ps = c.args.ctx.now.premises in
+    let few : n ≤ 16 = c.requires.few in
+    let r = ready_variable n ps c.in_ok-inner.inner c.args.body.now c.args.body.now c.in_ok-inner.ensures refl few c.requires.premises c.requires.within in
     (search (rules, the_lemmas), (r.few, (r.premises, r.within)))
 
-pub check_type-returns-in_ok-with_variable-in-Ex : goal.check_type-returns-in_ok-with_variable-in-Ex
-check_type-returns-in_ok-with_variable-in-Ex t c =
+pub check_below_variable-returns : goal.check_below_variable-returns
+check_below_variable-returns t c =
     let ds = c.args.table.now.defs in
     let n = c.args.ctx.now.vars in
     let ps = c.args.ctx.now.premises in
-    let a = c.args.a.now in
-    let few : n ≤ 16 = omega arith in
-    judged_ex ds n ps few a c.in_ok-with_variable-in-Ex.field-0.vars c.in_ok-with_variable-in-Ex.field-0.premises c.get-in-Ex.result.now c.check_type-in-Ex.result (c.in-Ex.is ∙ ap ty.Ex (sym c.get-in-Ex.ensures)) (ap (λ (y : Ctx). y.vars) c.in_ok-with_variable-in-Ex.ensures) (ap (λ (y : Ctx). y.premises) c.in_ok-with_variable-in-Ex.ensures) c.check_type-in-Ex.ensures
+    let few : n ≤ 16 = c.requires.few in
+    judged_here ds (n + 1) ps c.in_ok-inner.inner c.args.body.now c.check_type.result c.in_ok-inner.ensures c.check_type.ensures
 
-pub check_type-check_type-requires-in-All : goal.check_type-check_type-requires-in-All
-check_type-check_type-requires-in-All t c =
+pub check_below_premise-check_type-requires : goal.check_below_premise-check_type-requires
+check_below_premise-check_type-requires t c =
     let ds = c.args.table.now.defs in
     let n = c.args.ctx.now.vars in
     let ps = c.args.ctx.now.premises in
-    let a = c.args.a.now in
-    let few : n ≤ 16 = omega arith in
-    let r = ready_variable n ps c.in_ok-with_variable-in-All.field-0 c.in-All.b c.get-in-All.result.now c.in_ok-with_variable-in-All.ensures c.get-in-All.ensures few c.requires.premises (all_part n c.in-All.b (subst (IsWithinType n) c.in-All.is c.requires.within)) in
+    let few : n ≤ 16 = c.requires.few in
+    let r = ready_premise n ps c.args.premise.now c.in_ok-inner.inner c.args.body.now c.args.body.now c.in_ok-inner.ensures refl few c.requires.premises c.requires.premise c.requires.within in
     (search (rules, the_lemmas), (r.few, (r.premises, r.within)))
 
-pub check_type-returns-in_ok-with_variable-in-All : goal.check_type-returns-in_ok-with_variable-in-All
-check_type-returns-in_ok-with_variable-in-All t c =
+pub check_below_premise-returns : goal.check_below_premise-returns
+check_below_premise-returns t c =
     let ds = c.args.table.now.defs in
     let n = c.args.ctx.now.vars in
     let ps = c.args.ctx.now.premises in
-    let a = c.args.a.now in
-    let few : n ≤ 16 = omega arith in
-    judged_all ds n ps few a c.in_ok-with_variable-in-All.field-0.vars c.in_ok-with_variable-in-All.field-0.premises c.get-in-All.result.now c.check_type-in-All.result (c.in-All.is ∙ ap ty.All (sym c.get-in-All.ensures)) (ap (λ (y : Ctx). y.vars) c.in_ok-with_variable-in-All.ensures) (ap (λ (y : Ctx). y.premises) c.in_ok-with_variable-in-All.ensures) c.check_type-in-All.ensures
+    let few : n ≤ 16 = c.requires.few in
+    judged_here ds n (ps ++ c.args.premise.now ∷ []) c.in_ok-inner.inner c.args.body.now c.check_type.result c.in_ok-inner.ensures c.check_type.ensures
 
-pub check_type-check_type-requires-in-Assert : goal.check_type-check_type-requires-in-Assert
-check_type-check_type-requires-in-Assert t c =
+pub check_below_potential-check_type-requires : goal.check_below_potential-check_type-requires
+check_below_potential-check_type-requires t c =
     let ds = c.args.table.now.defs in
     let n = c.args.ctx.now.vars in
     let ps = c.args.ctx.now.premises in
-    let a = c.args.a.now in
-    let few : n ≤ 16 = omega arith in
-    let r = let p = assert_parts n c.in-Assert.f c.in-Assert.b (subst (IsWithinType n) c.in-Assert.is c.requires.within) in ready_premise n ps c.in-Assert.f c.in_ok-with_premise-in-Assert.field-0 c.in-Assert.b c.get-in-Assert.result.now c.in_ok-with_premise-in-Assert.ensures c.get-in-Assert.ensures few c.requires.premises p.0 p.1 in
-    (search (rules, the_lemmas), (r.few, (r.premises, r.within)))
+    let few : n ≤ 16 = c.requires.few in
+    (search (rules, the_lemmas), ((omega arith), (c.requires.premises, c.requires.within)))
 
-pub check_type-returns-in_ok-with_premise-in-Assert : goal.check_type-returns-in_ok-with_premise-in-Assert
-check_type-returns-in_ok-with_premise-in-Assert t c =
+pub check_below_potential-returns-in_err-check_natural : goal.check_below_potential-returns-in_err-check_natural
+check_below_potential-returns-in_err-check_natural t c =
     let ds = c.args.table.now.defs in
     let n = c.args.ctx.now.vars in
     let ps = c.args.ctx.now.premises in
-    let a = c.args.a.now in
-    let few : n ≤ 16 = omega arith in
-    judged_assert ds n ps few a c.in-Assert.f c.in_ok-with_premise-in-Assert.field-0.vars c.in_ok-with_premise-in-Assert.field-0.premises c.get-in-Assert.result.now c.check_type-in-Assert.result (c.in-Assert.is ∙ ap (ty.Assert c.in-Assert.f) (sym c.get-in-Assert.ensures)) (ap (λ (y : Ctx). y.vars) c.in_ok-with_premise-in-Assert.ensures) (ap (λ (y : Ctx). y.premises) c.in_ok-with_premise-in-Assert.ensures) c.check_type-in-Assert.ensures
+    let few : n ≤ 16 = c.requires.few in
+    potential_false ds n ps c.args.potential.now c.args.body.now c.in_err-check_natural.field-0.0 c.from_residual.result c.in_err-check_natural.ensures c.from_residual.ensures.1
 
-pub check_type-check_type-requires-in-Assume : goal.check_type-check_type-requires-in-Assume
-check_type-check_type-requires-in-Assume t c =
+pub check_below_potential-returns : goal.check_below_potential-returns
+check_below_potential-returns t c =
     let ds = c.args.table.now.defs in
     let n = c.args.ctx.now.vars in
     let ps = c.args.ctx.now.premises in
-    let a = c.args.a.now in
-    let few : n ≤ 16 = omega arith in
-    let r = let p = assume_parts n c.in-Assume.f c.in-Assume.b (subst (IsWithinType n) c.in-Assume.is c.requires.within) in ready_premise n ps c.in-Assume.f c.in_ok-with_premise-in-Assume.field-0 c.in-Assume.b c.get-in-Assume.result.now c.in_ok-with_premise-in-Assume.ensures c.get-in-Assume.ensures few c.requires.premises p.0 p.1 in
-    (search (rules, the_lemmas), (r.few, (r.premises, r.within)))
+    let few : n ≤ 16 = c.requires.few in
+    potential_then ds n ps c.args.potential.now c.args.body.now c.check_type.result c.in_ok-check_natural.ensures c.check_type.ensures
 
-pub check_type-returns-in_ok-with_premise-in-Assume : goal.check_type-returns-in_ok-with_premise-in-Assume
-check_type-returns-in_ok-with_premise-in-Assume t c =
+pub check_below_ticks-check_type-requires : goal.check_below_ticks-check_type-requires
+check_below_ticks-check_type-requires t c =
     let ds = c.args.table.now.defs in
     let n = c.args.ctx.now.vars in
     let ps = c.args.ctx.now.premises in
-    let a = c.args.a.now in
-    let few : n ≤ 16 = omega arith in
-    judged_assume ds n ps few a c.in-Assume.f c.in_ok-with_premise-in-Assume.field-0.vars c.in_ok-with_premise-in-Assume.field-0.premises c.get-in-Assume.result.now c.check_type-in-Assume.result (c.in-Assume.is ∙ ap (ty.Assume c.in-Assume.f) (sym c.get-in-Assume.ensures)) (ap (λ (y : Ctx). y.vars) c.in_ok-with_premise-in-Assume.ensures) (ap (λ (y : Ctx). y.premises) c.in_ok-with_premise-in-Assume.ensures) c.check_type-in-Assume.ensures
+    let few : n ≤ 16 = c.requires.few in
+    (search (rules, the_lemmas), ((omega arith), (c.requires.premises, c.requires.within)))
 
-pub check_type-check_natural-requires-clause-within : goal.check_type-check_natural-requires-clause-within
-check_type-check_natural-requires-clause-within t c =
+pub check_below_ticks-returns-in_err-check_natural : goal.check_below_ticks-returns-in_err-check_natural
+check_below_ticks-returns-in_err-check_natural t c =
     let ds = c.args.table.now.defs in
     let n = c.args.ctx.now.vars in
     let ps = c.args.ctx.now.premises in
-    let a = c.args.a.now in
-    let few : n ≤ 16 = omega arith in
-    (pays_parts n c.in-Pays.p c.in-Pays.b (subst (IsWithinType n) c.in-Pays.is c.requires.within)).0
+    let few : n ≤ 16 = c.requires.few in
+    ticks_false ds n ps c.args.ticks.now c.args.body.now c.in_err-check_natural.field-0.0 c.from_residual.result c.in_err-check_natural.ensures c.from_residual.ensures.1
 
-pub check_type-check_type-requires-in-Pays : goal.check_type-check_type-requires-in-Pays
-check_type-check_type-requires-in-Pays t c =
+pub check_below_ticks-returns-then-leads_to_next : goal.check_below_ticks-returns-then-leads_to_next
+check_below_ticks-returns-then-leads_to_next t c =
     let ds = c.args.table.now.defs in
     let n = c.args.ctx.now.vars in
     let ps = c.args.ctx.now.premises in
-    let a = c.args.a.now in
-    let few : n ≤ 16 = omega arith in
-    let r = ready_part n ps c.in-Pays.b c.get-in-Pays.result.now c.get-in-Pays.ensures few c.requires.premises (pays_parts n c.in-Pays.p c.in-Pays.b (subst (IsWithinType n) c.in-Pays.is c.requires.within)).1 in
-    (search (rules, the_lemmas), (r.few, (r.premises, r.within)))
+    let few : n ≤ 16 = c.requires.few in
+    ticks_shape ds n ps c.args.ticks.now c.args.body.now c.leads_to_next.result c.in_ok-check_natural.ensures c.leads_to_next.ensures c.if-leads_to_next.true
 
-pub check_type-returns-in_err-check_natural-in-Pays : goal.check_type-returns-in_err-check_natural-in-Pays
-check_type-returns-in_err-check_natural-in-Pays t c =
+pub check_below_ticks-returns : goal.check_below_ticks-returns
+check_below_ticks-returns t c =
     let ds = c.args.table.now.defs in
     let n = c.args.ctx.now.vars in
     let ps = c.args.ctx.now.premises in
-    let a = c.args.a.now in
-    let few : n ≤ 16 = omega arith in
-    pays_false ds n ps few a c.in-Pays.p c.in-Pays.b c.in_err-check_natural-in-Pays.field-0.0 c.from_residual-in_err-check_natural-in-Pays.result c.in-Pays.is
-    c.in_err-check_natural-in-Pays.ensures c.from_residual-in_err-check_natural-in-Pays.ensures.1
-
-pub check_type-returns-in_ok-check_natural-in-Pays : goal.check_type-returns-in_ok-check_natural-in-Pays
-check_type-returns-in_ok-check_natural-in-Pays t c =
-    let ds = c.args.table.now.defs in
-    let n = c.args.ctx.now.vars in
-    let ps = c.args.ctx.now.premises in
-    let a = c.args.a.now in
-    let few : n ≤ 16 = omega arith in
-    pays_then ds n ps few a c.in-Pays.p c.get-in-Pays.result.now c.check_type-in-Pays.result (c.in-Pays.is ∙ ap (ty.Pays c.in-Pays.p) (sym c.get-in-Pays.ensures)) c.in_ok-check_natural-in-Pays.ensures c.check_type-in-Pays.ensures
-
-pub check_type-check_natural-requires-in-Gets-clause-within : goal.check_type-check_natural-requires-in-Gets-clause-within
-check_type-check_natural-requires-in-Gets-clause-within t c =
-    let ds = c.args.table.now.defs in
-    let n = c.args.ctx.now.vars in
-    let ps = c.args.ctx.now.premises in
-    let a = c.args.a.now in
-    let few : n ≤ 16 = omega arith in
-    (gets_parts n c.in-Gets.p c.in-Gets.b (subst (IsWithinType n) c.in-Gets.is c.requires.within)).0
-
-pub check_type-check_type-requires-in-Gets : goal.check_type-check_type-requires-in-Gets
-check_type-check_type-requires-in-Gets t c =
-    let ds = c.args.table.now.defs in
-    let n = c.args.ctx.now.vars in
-    let ps = c.args.ctx.now.premises in
-    let a = c.args.a.now in
-    let few : n ≤ 16 = omega arith in
-    let r = ready_part n ps c.in-Gets.b c.get-in-Gets.result.now c.get-in-Gets.ensures few c.requires.premises (gets_parts n c.in-Gets.p c.in-Gets.b (subst (IsWithinType n) c.in-Gets.is c.requires.within)).1 in
-    (search (rules, the_lemmas), (r.few, (r.premises, r.within)))
-
-pub check_type-returns-in_err-check_natural-in-Gets : goal.check_type-returns-in_err-check_natural-in-Gets
-check_type-returns-in_err-check_natural-in-Gets t c =
-    let ds = c.args.table.now.defs in
-    let n = c.args.ctx.now.vars in
-    let ps = c.args.ctx.now.premises in
-    let a = c.args.a.now in
-    let few : n ≤ 16 = omega arith in
-    gets_false ds n ps few a c.in-Gets.p c.in-Gets.b c.in_err-check_natural-in-Gets.field-0.0 c.from_residual-in_err-check_natural-in-Gets.result c.in-Gets.is
-    c.in_err-check_natural-in-Gets.ensures c.from_residual-in_err-check_natural-in-Gets.ensures.1
-
-pub check_type-returns-in_ok-check_natural-in-Gets : goal.check_type-returns-in_ok-check_natural-in-Gets
-check_type-returns-in_ok-check_natural-in-Gets t c =
-    let ds = c.args.table.now.defs in
-    let n = c.args.ctx.now.vars in
-    let ps = c.args.ctx.now.premises in
-    let a = c.args.a.now in
-    let few : n ≤ 16 = omega arith in
-    gets_then ds n ps few a c.in-Gets.p c.get-in-Gets.result.now c.check_type-in-Gets.result (c.in-Gets.is ∙ ap (ty.Gets c.in-Gets.p) (sym c.get-in-Gets.ensures)) c.in_ok-check_natural-in-Gets.ensures c.check_type-in-Gets.ensures
-
-pub check_type-check_natural-requires-in-Next-clause-within : goal.check_type-check_natural-requires-in-Next-clause-within
-check_type-check_natural-requires-in-Next-clause-within t c =
-    let ds = c.args.table.now.defs in
-    let n = c.args.ctx.now.vars in
-    let ps = c.args.ctx.now.premises in
-    let a = c.args.a.now in
-    let few : n ≤ 16 = omega arith in
-    (next_parts n c.in-Next.ticks c.in-Next.b (subst (IsWithinType n) c.in-Next.is c.requires.within)).0
-
-pub check_type-check_type-requires-in-Next : goal.check_type-check_type-requires-in-Next
-check_type-check_type-requires-in-Next t c =
-    let ds = c.args.table.now.defs in
-    let n = c.args.ctx.now.vars in
-    let ps = c.args.ctx.now.premises in
-    let a = c.args.a.now in
-    let few : n ≤ 16 = omega arith in
-    let r = ready_part n ps c.in-Next.b c.get-in-Next-2.result.now c.get-in-Next-2.ensures few c.requires.premises (next_parts n c.in-Next.ticks c.in-Next.b (subst (IsWithinType n) c.in-Next.is c.requires.within)).1 in
-    (search (rules, the_lemmas), (r.few, (r.premises, r.within)))
-
-pub check_type-returns-in_err-check_natural-in-Next : goal.check_type-returns-in_err-check_natural-in-Next
-check_type-returns-in_err-check_natural-in-Next t c =
-    let ds = c.args.table.now.defs in
-    let n = c.args.ctx.now.vars in
-    let ps = c.args.ctx.now.premises in
-    let a = c.args.a.now in
-    let few : n ≤ 16 = omega arith in
-    next_false ds n ps few a c.in-Next.ticks c.in-Next.b c.in_err-check_natural-in-Next.field-0.0 c.from_residual-in_err-check_natural-in-Next.result c.in-Next.is
-    c.in_err-check_natural-in-Next.ensures c.from_residual-in_err-check_natural-in-Next.ensures.1
-
-pub check_type-returns-then-leads_to_next : goal.check_type-returns-then-leads_to_next
-check_type-returns-then-leads_to_next t c =
-    let ds = c.args.table.now.defs in
-    let n = c.args.ctx.now.vars in
-    let ps = c.args.ctx.now.premises in
-    let a = c.args.a.now in
-    let few : n ≤ 16 = omega arith in
-    next_shape ds n ps few a c.in-Next.ticks c.in-Next.b c.leads_to_next.result c.in-Next.is c.in_ok-check_natural-in-Next.ensures (c.leads_to_next.ensures ∙ ap (leads_to_next ds) c.get-in-Next.ensures) c.if-leads_to_next.true
-
-pub check_type-returns-else-leads_to_next : goal.check_type-returns-else-leads_to_next
-check_type-returns-else-leads_to_next t c =
-    let ds = c.args.table.now.defs in
-    let n = c.args.ctx.now.vars in
-    let ps = c.args.ctx.now.premises in
-    let a = c.args.a.now in
-    let few : n ≤ 16 = omega arith in
-    next_then ds n ps few a c.in-Next.ticks c.in-Next.b c.leads_to_next.result c.check_type-in-Next.result c.in-Next.is c.in_ok-check_natural-in-Next.ensures (c.leads_to_next.ensures ∙ ap (leads_to_next ds) c.get-in-Next.ensures) c.if-leads_to_next.false
-    (subst (λ (x : Ty). Judges (claims_of ds n ps x) c.check_type-in-Next.result) c.get-in-Next-2.ensures c.check_type-in-Next.ensures)
+    let few : n ≤ 16 = c.requires.few in
+    ticks_then ds n ps c.args.ticks.now c.args.body.now c.leads_to_next.result c.check_type.result c.in_ok-check_natural.ensures c.leads_to_next.ensures c.if-leads_to_next.false c.check_type.ensures
 
 pub check_choices-check_type-requires : goal.check_choices-check_type-requires
 check_choices-check_type-requires t c =

@@ -1,6 +1,6 @@
 use Rattle.std.proofs.Common.{rules, arith}
 use Rattle.std.proofs.lemmas.Result.{err_from_is_err_and}
-use Rattle.rast_resolve.proofs.TermLayers.{proc_gives, case_gives, term_stops}
+use Rattle.rast_resolve.proofs.TermLayers.{proc_gives, case_gives, term_made, term_stops}
 use Rattle.rast_resolve.proofs.Scoped.{place_back}
 use Rattle.rast_resolve.proofs.Weights.{term_below, end_below, case_below, cases_below, first_below, rest_below, item_below}
 use Rattle.rast_resolve.proofs.terms.+term.Goals as goal
@@ -39,7 +39,11 @@ end-returns-in-Case-clause-gives t c =
 pub term_of-returns-in_err-below-clause-gives : goal.term_of-returns-in_err-below-clause-gives
 term_of-returns-in_err-below-clause-gives t c =
     let p = err_from_is_err_and c.from_residual-in_err-below.result c.from_residual-in_err-below.ensures.1 in
-    rw (p.1, p.2) (term_stops c.args.known.now c.args.item.now c.args.place.now c.args.at c.args.steps.now c.args.last.now c.in_ok-nodes.nodes c.steps_of.new.place _ _ _ c.in_ok-nodes.ensures c.in_ok-after.ensures (search rules) c.in_err-below.ensures.gives)
+    rw (p.1, p.2) (term_stops c.args.known.now c.args.item.now c.args.place.now c.args.at c.args.steps.now c.args.last.now c.in_ok-nodes.nodes c.steps_of.new.place _ _ c.in_ok-nodes.ensures c.in_ok-after.ensures (search rules) _ c.in_err-below.ensures.gives)
+
+pub term_of-returns-clause-gives : goal.term_of-returns-clause-gives
+term_of-returns-clause-gives t c =
+    term_made c.args.known.now c.args.item.now c.args.place.now c.args.at c.args.steps.now c.args.last.now c.in_ok-nodes.nodes c.steps_of.new.place _ _ c.in_ok-nodes.ensures c.in_ok-after.ensures (search rules) c.in_ok-below.below _ c.in_ok-below.ensures.gives c.in_ok-append.ensures
 
 pub term_of-returns-clause-kept : goal.term_of-returns-clause-kept
 term_of-returns-clause-kept t c =

@@ -3,7 +3,7 @@ use Rattle.rast_index.specs.Linear.{less}
 use Rattle.rast_rules.specs.Making.{made_term}
 use Rattle.rast_rules.specs.Rules.{inner_of, amount_of, with_type, with_potential}
 use Rattle.rast_rules.proofs.Sound.{kept_type, kept_same}
-use Rattle.rast_rules.proofs.Stays.{goes_on_all}
+use Rattle.rast_rules.proofs.Stays.{with_part_all}
 use Rattle.rast_rules.proofs.below.below_pay.Goals as goal
 
 pub returns : goal.returns
@@ -14,5 +14,5 @@ returns c =
     let k = with_type j x a in
     let q = less j.potential (amount_of c.args.head.now) in
     let kept = kept_type j j x a (kept_same j) in
-    let draft = goes_on_all j x a c.in_ok-draft.draft (c.in_ok-draft.ensures a c.inner_of.ensures) in
-    c.only.ensures (with_potential k q) (c.with_potential-draft.ensures k q draft (c.rest.ensures ∙ ap (λ l. made_term (less j.potential l)) c.amount_of.ensures)) kept.decl kept.premises
+    let draft = with_part_all j x a c.in_ok-draft.draft (c.in_ok-draft.ensures a c.inner_of.ensures) in
+    c.single_child.ensures (with_potential k q) (c.with_potential-draft.ensures k q draft (c.rest.ensures ∙ ap (λ l. made_term (less j.potential l)) c.amount_of.ensures)) kept.decl kept.premises

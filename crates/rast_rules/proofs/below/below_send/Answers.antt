@@ -10,4 +10,4 @@ returns c =
     let k = without j (c.args.w ∷ []) in
     let a = second_of_pair c.args.head.now in
     let kept = kept_type j k x a (kept_without j (c.args.w ∷ [])) in
-    c.only.ensures (with_type k x a) (c.in_ok-draft.ensures a c.second_of_pair.ensures) kept.decl kept.premises
+    c.single_child.ensures (with_type k x a) (c.in_ok-draft.ensures a c.second_of_pair.ensures) kept.decl kept.premises

@@ -10,6 +10,6 @@ pub returns-in_ok-draft-in-None : goal.returns-in_ok-draft-in-None
 returns-in_ok-draft-in-None c =
     let j = c.args.at.now in
     let kept = kept_same j in
-    ok_trans c.only.result (limited j ∷ []) (limited (spawned j c.args.args.now c.args.ys.now (slice_get c.args.program.now.decls c.args.decl)) ∷ [])
+    ok_trans c.single_child.result (limited j ∷ []) (limited (spawned j c.args.args.now c.args.ys.now (slice_get c.args.program.now.decls c.args.decl)) ∷ [])
     (ap (λ (o : Option Decl). limited (spawned j c.args.args.now c.args.ys.now o) ∷ []) c.in-None.ensures.value)
-    (c.only.ensures j (c.in_ok-draft-in-None.ensures ∙ ap drafted (changed_none j)) kept.decl kept.premises)
+    (c.single_child.ensures j (c.in_ok-draft-in-None.ensures ∙ ap drafted (changed_none j)) kept.decl kept.premises)

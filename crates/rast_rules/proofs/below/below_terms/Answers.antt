@@ -10,4 +10,4 @@ returns c = λ b m.
     let x = c.args.x in
     let a = put_type j.ctx.vars c.args.terms.now b in
     let kept = kept_type j j x a (kept_same j) in
-    c.only.ensures (with_type j x a) (changes_at j x a c.in_ok-draft.draft (c.in_ok-draft.ensures a (c.in_ok-part.ensures b m))) kept.decl kept.premises
+    c.single_child.ensures (with_type j x a) (changes_at j x a c.in_ok-draft.draft (c.in_ok-draft.ensures a (c.in_ok-part.ensures b m))) kept.decl kept.premises

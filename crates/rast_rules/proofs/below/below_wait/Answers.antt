@@ -10,4 +10,4 @@ returns c =
     let j = c.args.at.now in
     let gone = c.args.x ∷ [] in
     let kept = kept_without j gone in
-    c.only.ensures (without j gone) (c.in_ok-draft.ensures ∙ ap drafted (changed_without j gone)) kept.decl kept.premises
+    c.single_child.ensures (without j gone) (c.in_ok-draft.ensures ∙ ap drafted (changed_without j gone)) kept.decl kept.premises

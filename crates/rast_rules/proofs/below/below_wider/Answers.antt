@@ -7,4 +7,4 @@ returns c = λ a same m.
     let j = c.args.at.now in
     let x = c.args.x in
     let kept = wider j x a in
-    c.only.ensures (with_type (with_variable j) x a) (widens_at j c.args.terms x a c.in_ok-draft.draft same (c.in_ok-draft.ensures a (c.in_ok-part.ensures a m))) kept.decl kept.premises
+    c.single_child.ensures (with_type (with_variable j) x a) (widens_at j c.args.terms x a c.in_ok-draft.draft same (c.in_ok-draft.ensures a (c.in_ok-part.ensures a m))) kept.decl kept.premises

@@ -11,4 +11,4 @@ returns c =
     let j = c.args.at.now in
     let q = less j.potential c.args.amount.now in
     let kept = kept_same j in
-    c.only.ensures (with_potential j q) (c.with_potential-draft.ensures j q (c.in_ok-draft.ensures ∙ ap drafted (changed_none j)) c.rest.ensures) kept.decl kept.premises
+    c.single_child.ensures (with_potential j q) (c.with_potential-draft.ensures j q (c.in_ok-draft.ensures ∙ ap drafted (changed_none j)) c.rest.ensures) kept.decl kept.premises

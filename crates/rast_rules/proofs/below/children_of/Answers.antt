@@ -19,11 +19,11 @@ returns-in_ok-head-in-Some c =
     let n = c.args.node.now in
     let t : Touch = record { x = c.in-Some.touch.x; provided = c.in-Some.touch.provided; used = c.in-Some.touch.used } in
     let same = child_touched g j n t (head_at g j) c.in-Some.ensures ∙ ap (λ (h : Ty). child_at g j n (λ x. h)) (sym c.in_ok-head-in-Some.ensures) in
-    ok_trans c.below-children.result (map limited (child_at g j n (λ x. c.in_ok-head-in-Some.head))) (children g j n) (ap (map limited) (sym same)) c.below-children.ensures
+    ok_trans c.children_under-children.result (map limited (child_at g j n (λ x. c.in_ok-head-in-Some.head))) (children g j n) (ap (map limited) (sym same)) c.children_under-children.ensures
 
 pub returns-in-None : goal.returns-in-None
 returns-in-None c =
     let g = c.args.program.now in
     let j = c.args.at.now in
     let n = c.args.node.now in
-    ok_trans c.below.result (map limited (child_at g j n (λ x. ty.One))) (children g j n) (ap (map limited) (child_untouched g j n (λ x. ty.One) (head_at g j) c.in-None.ensures)) c.below.ensures
+    ok_trans c.children_under.result (map limited (child_at g j n (λ x. ty.One))) (children g j n) (ap (map limited) (child_untouched g j n (λ x. ty.One) (head_at g j) c.in-None.ensures)) c.children_under.ensures

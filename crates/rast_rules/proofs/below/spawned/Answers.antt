@@ -25,4 +25,4 @@ returns-in_ok-wider-in-Ok c =
     let b = at_args j es c.args.callee.now.gives in
     let kept = kept_without j ys in
     let draft = c.with_potential-draft.ensures (without j ys) q (c.in_ok-draft.ensures ∙ ap drafted (changed_without j ys)) (c.handed.ensures l c.put_term.ensures c.requires) in
-    c.only.ensures (with_channel k b) (c.in_ok-wider-in-Ok.ensures k b draft c.in-Ok.ensures) kept.decl kept.premises
+    c.single_child.ensures (with_channel k b) (c.in_ok-wider-in-Ok.ensures k b draft c.in-Ok.ensures) kept.decl kept.premises

@@ -14,4 +14,4 @@ returns c =
     let same = c.as_slice-uses.ensures in
     let kept = kept_same j in
     let uses = c.in_ok-made.ensures ∙ ap (λ us. made_uses j.ctx.vars (later (defs g) j.ctx.vars by us)) same in
-    c.only.ensures (delayed g j by) (delay_is g j by c.draft-draft.result c.in_ok-made.made c.in_ok-gives.gives c.count_left.result uses (c.in_ok-gives.ensures true) (c.count_left.ensures ∙ ap (λ us. min 16 (length (left [] us))) same) c.draft-draft.ensures) kept.decl kept.premises
+    c.single_child.ensures (delayed g j by) (delay_is g j by c.draft-draft.result c.in_ok-made.made c.in_ok-gives.gives c.count_left.result uses (c.in_ok-gives.ensures true) (c.count_left.ensures ∙ ap (λ us. min 16 (length (left [] us))) same) c.draft-draft.ensures) kept.decl kept.premises

@@ -1,6 +1,5 @@
 use Rattle.std.proofs.Common.{◌∙◌, ap, not, sym, true≢false}
-use Rattle.rast_check.specs.Decided.{searched}
-use Rattle.rast_check.proofs.Forests.{forest_clear}
+use Rattle.rast_check.proofs.Forests.{forest_is}
 use Rattle.rast_run_tests.proofs.Loaded.{loads_runnable, is_some_main}
 use Rattle.rast_run_tests.proofs.replay.program_of.Goals as goal
 
@@ -14,4 +13,4 @@ pub returns-clause-accepted : goal.returns-clause-accepted
 returns-clause-accepted c = c.in-Ok.ensures.loaded.accepted
 
 pub returns-clause-forest : goal.returns-clause-forest
-returns-clause-forest c = forest_clear searched _ c.in-Ok.ensures.loaded.clear
+returns-clause-forest c = forest_is _ c.in-Ok.ensures.loaded.made

@@ -1,0 +1,9 @@
+pub mod Choosing
+pub mod Founds
+pub mod Kept
+pub mod Making
+pub mod Meeting
+pub mod Opening
+pub mod Premises
+pub mod Reading
+pub mod Sames
